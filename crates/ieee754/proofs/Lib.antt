@@ -1,0 +1,4 @@
+pub mod Cut
+pub mod Round
+pub mod Values
+pub mod Same

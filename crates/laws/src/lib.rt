@@ -1,0 +1,1 @@
+// Laws on numbers, tests and lists that speak of no clock: each is stated once, and cited from above. There is no code here.

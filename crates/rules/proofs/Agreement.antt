@@ -1,0 +1,16 @@
+pub mod Agree
+pub mod Numbers
+pub mod Flash
+pub mod Config
+pub mod Buses
+pub mod Mcos
+pub mod Target
+pub mod Search
+pub mod Span
+pub mod Setup
+pub mod Settle
+pub mod OnePll
+pub mod Plls
+pub mod Split
+pub mod Writes
+pub mod Whole

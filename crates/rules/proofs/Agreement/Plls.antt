@@ -1,0 +1,248 @@
+-- From the setters to the PLLs: steps 1 to 4 against the Rust up to `plls-setup`, refusals 3 to 15.
+use mathlib.Core.Path.{_≡_, refl, sym, ap, _∙_}
+use mathlib.Core.List.{List, [], _++_, append-assoc, append-nil}
+use mathlib.Core.Bool.{Bool, true, false, not, _&&_, _||_}
+use Prim.Native.Nat.{ℕ, _/_, _≤_}
+use lib.Dec.{leb, eqb}
+use borrow.Author.Tests.{eqb-true, not-false}
+use Rattle.types.specs.declared.Entry.{Entry}
+use Rattle.types.specs.declared.Hertz.{Hertz}
+use Rattle.types.specs.declared.Hertz.the-variants.{Unset, Hz}
+use Rattle.types.specs.declared.PllRequest.{PllRequest}
+use Rattle.types.specs.declared.PllSettings.{PllSettings}
+use Rattle.types.specs.declared.Pll.{Pll}
+use Rattle.types.specs.declared.Pll.the-variants.{Idle}
+use Rattle.types.specs.declared.Request.{Request}
+use Rattle.types.specs.declared.ChipState.{ChipState}
+use Rattle.rules.specs.Document01.Result as Rules
+use Rattle.rules.specs.Document01.Result.{Result, refused, ok, require}
+use Rattle.rules.specs.Document01.Hertz.{isSet}
+use Rattle.rules.specs.Document01.Request.{forPll1Q, pllAt, within, fromHse1, fromHse2, pll1Asked, pll2Asked, sourceOf, systemOf, needsPll1, withP, forSystemClock, sourced, like}
+use Rattle.types.specs.declared.Refusal.the-variants.{NOutside, Pll1PUnlikeSystem}
+use Rattle.rules.specs.Document01.OnePll.{Range, settingsOf, vcoBy, outputOf, clockOf, pClock, spanned, dividedBy, settled, fractionOf, allowedP, dividerP, runs, running, pllOf, rangeFor, targetFor, firstOf}
+use Rattle.rules.specs.Document01.Entries.{setupEntries}
+use Rattle.rules.specs.Document01.Plan as R
+use Rattle.rules.specs.Document01.Plan.{thirdOf, pllsOf}
+use Rattle.rules.specs.Rust.Run.{Outcome, panics, ends, Run, continue}
+use Rattle.rules.specs.Rust.Pll.{PllClocks, pll-setup}
+use Rattle.rules.specs.Rust.Rcc as F
+use Rattle.rules.specs.Rust.Rcc.{Config, SysCk, pll-config, config-of, setters, mco1-setup, mco2-setup, sys-ck-setup, if-rm0481, no-pll, plls-setup}
+use Rattle.rules.specs.Demands.Agreement.{pllClocks}
+use Rattle.laws.proofs.Tests.{by-test, never, or-false, or-true}
+use Rattle.rules.proofs.Document01.Holds.{Holds, holds-then, holds-next}
+use Rattle.rules.proofs.Agreement.Agree.{Agree, agree-then, agree-holds, agree-map}
+use Rattle.rules.proofs.Document01.Span.{pos-of}
+use Rattle.rules.proofs.Agreement.Numbers.{or-same}
+use Rattle.rules.proofs.Agreement.Config.{configAfter, configWith, setters-end, setters-panic, fillQ, mco1-fills, mco1-panics, mco2-fills, mco2-panics, sysCk, KeptSys, system-agrees}
+use Rattle.rules.proofs.Agreement.Mcos.{clocksOf}
+use Rattle.rules.proofs.Agreement.OnePll.{SamePll, pll-agrees, source-panics}
+
+-- ---- a PLL whose P is requested reports one
+p-of : (target vco : ℕ) (h : Hertz) → isSet h ≡ true → isSet (clockOf (outputOf target vco h)) ≡ true
+p-of target vco Unset t = t
+p-of target vco (Hz h) t = refl
+
+abbrev HasP : Pll → Type 0
+HasP x = isSet (pClock x) ≡ true
+
+abbrev ReportsP : PllSettings → Type 0
+ReportsP s = isSet (clockOf (s .p)) ≡ true
+
+settled-p : (odd : Bool) (a : PllRequest) (g : Range) (target m ref n : ℕ) → isSet (a .p) ≡ true → Holds ReportsP (settled odd a g target m ref n)
+unfolding settled
+settled-p odd a g target m ref n t =
+    holds-next ReportsP (require (leb 4 n && leb n 512) NOutside) _
+    (holds-then ReportsP (fractionOf (a .strategy) ref n (target / firstOf a) (firstOf a)) _
+    (λ f. holds-next ReportsP (allowedP odd (dividerP target (a .p))) (ok (settingsOf a g target m ref n f)) (p-of target (vcoBy f ref n) (a .p) t)))
+
+runs-p : (odd : Bool) (source : ℕ) (a : PllRequest) → isSet (a .p) ≡ true → Holds ReportsP (runs odd source a)
+unfolding runs
+runs-p odd source a t =
+    holds-next ReportsP (spanned odd a) _
+    (holds-then ReportsP (dividedBy source (rangeFor odd a) (targetFor odd a)) _
+    (λ m. settled-p odd a (rangeFor odd a) (targetFor odd a) m (source / m) (targetFor odd a / (source / m)) t))
+
+running-p : (x : Result PllSettings) → Holds ReportsP x → Holds HasP (running x)
+running-p (refused n) h = tt
+running-p (ok s) h = h
+
+pll-p : (odd : Bool) (source : ℕ) (a : PllRequest) → isSet (a .p) ≡ true → Holds HasP (pllOf odd source a)
+unfolding pllOf
+pll-p odd source a t = rw (or-true (isSet (a .p)) (isSet (a .q) || isSet (a .r)) t) (running-p (runs odd source a) (runs-p odd source a t))
+
+-- where the system clock needs PLL1, P is requested of it
+asked-p : (needed : Bool) (s : ℕ) (a : PllRequest) → Holds (λ (b : PllRequest). needed ≡ true → isSet (b .p) ≡ true) (forSystemClock needed s a)
+unfolding forSystemClock
+asked-p false s a = λ e. absurd (never (sym e))
+asked-p true s a = holds-next (λ (b : PllRequest). true ≡ true → isSet (b .p) ≡ true) (require (like (a .p) s) Pll1PUnlikeSystem) (ok (withP a s)) (λ e. refl)
+
+-- ---- up to `plls-setup`: what the Rust then has
+pub record Ready : Type 0 where
+  pub s : SysCk
+  pub plls : F.Plls
+
+abbrev pub afterSys : ChipState → SysCk → Run Ready
+afterSys c s = λ es. continue (plls-setup c (s .config) es) (λ l es. ends es (record { s = s; plls = l }))
+
+abbrev pub afterMco2 : ChipState → Config → Run Ready
+afterMco2 c config = λ es. continue (sys-ck-setup config es) (afterSys c)
+
+abbrev pub afterMco1 : ChipState → Config → Run Ready
+afterMco1 c config = λ es. continue (mco2-setup config es) (afterMco2 c)
+
+abbrev pub afterSetters : ChipState → Config → Run Ready
+afterSetters c config = λ es. continue (mco1-setup config es) (afterMco1 c)
+
+abbrev pub ready : Request → ChipState → Outcome Ready
+ready q c = continue (setters q []) (afterSetters c)
+
+-- the HSE is stated where an MCO takes it
+pub record Stated (q : Request) : Type 0 where
+  pub one : fromHse1 (q .mco1source) ≡ true → isSet (q .hse) ≡ true
+  pub two : fromHse2 (q .mco2source) ≡ true → isSet (q .hse) ≡ true
+
+pub record SameReady (q : Request) (c : ChipState) (l : R.Plls) (es : List Entry) (r : Ready) : Type 0 where
+  pub asked1 : PllRequest
+  pub entries : es ≡ setupEntries 0 (l .pll1) ++ (setupEntries 1 (l .pll2) ++ setupEntries 2 (l .pll3))
+  pub value : r ≡ record { s = sysCk q asked1; plls = clocksOf l }
+  pub needed : needsPll1 q ≡ true → isSet (pClock (l .pll1)) ≡ true
+  pub third : c .three ≡ false → l .pll3 ≡ Idle
+  pub states : Stated q
+
+-- ---- the PLLs
+third-idle : (q : Request) (c : ChipState) → Holds (λ (x : Pll). c .three ≡ false → x ≡ Idle) (thirdOf q c)
+third-idle q c =
+    by-test (c .three)
+    (λ (t : c .three ≡ true). holds-any (thirdOf q c) (λ x e. absurd (never (sym t ∙ e))))
+    (λ (f : c .three ≡ false). rw f (λ e. refl))
+  where
+    holds-any : (x : Result Pll) → ((y : Pll) → c .three ≡ false → y ≡ Idle) → Holds (λ (y : Pll). c .three ≡ false → y ≡ Idle) x
+    holds-any (refused n) h = tt
+    holds-any (ok y) h = h y
+
+third-agrees : (q : Request) (c : ChipState) (es : List Entry) → 1 ≤ sourceOf q → Agree (SamePll 2 es) (thirdOf q c) (if-rm0481 (c .three) (pll-setup 2 (c .odd3) (sourceOf q) (pll-config (pllAt q 2))) no-pll es)
+third-agrees q c es h =
+    by-test (c .three)
+    (λ (t : c .three ≡ true). rw t (pll-agrees 2 (sourceOf q) (pllAt q 2) (c .odd3) es h))
+    (λ (f : c .three ≡ false). rw f (sym (append-nil es), refl))
+
+abbrev rulesFrom : Request → ChipState → PllRequest → Result R.Plls
+rulesFrom q c asked1 =
+    Rules._>>=_ (pllOf (c .odd1) (sourceOf q) asked1) (λ pll1.
+    Rules._>>=_ (pllOf (c .odd2) (sourceOf q) (pll2Asked q)) (λ pll2.
+    Rules._>>=_ (thirdOf q c) (λ pll3. ok (record { pll1 = pll1; pll2 = pll2; pll3 = pll3 }))))
+
+module _ (q : Request) (c : ChipState) (st : Stated q) (asked1 : PllRequest) (p1 : needsPll1 q ≡ true → isSet (asked1 .p) ≡ true) where
+  abbrev source : ℕ
+  source = sourceOf q
+
+  abbrev rules : Result R.Plls
+  rules = rulesFrom q c asked1
+
+  -- 6
+  no-source : eqb source 0 ≡ true → Agree (SameReady q c) (Rules._>>_ (sourced q) rules) (afterSys c (sysCk q asked1) [])
+  unfolding plls-setup
+  no-source t =
+      let e : source ≡ 0 = eqb-true source 0 t in
+      rw (t, or-same (q .hse) 32000000, e, source-panics 0 asked1 (c .odd1) []) tt
+
+  -- 7 to 15, for each PLL
+  abbrev SamePlls : R.Plls → List Entry → F.Plls → Type 0
+  SamePlls l es r =
+      (es ≡ setupEntries 0 (l .pll1) ++ (setupEntries 1 (l .pll2) ++ setupEntries 2 (l .pll3)))
+      × (r ≡ clocksOf l)
+      × (needsPll1 q ≡ true → isSet (pClock (l .pll1)) ≡ true)
+      × (c .three ≡ false → l .pll3 ≡ Idle)
+
+  abbrev Needed : Pll → Type 0
+  Needed x = needsPll1 q ≡ true → isSet (pClock x) ≡ true
+
+  abbrev Third : Pll → Type 0
+  Third x = c .three ≡ false → x ≡ Idle
+
+  needed-p : Holds Needed (pllOf (c .odd1) source asked1)
+  needed-p = by-test (needsPll1 q) (λ (t : needsPll1 q ≡ true). weaken (pllOf (c .odd1) source asked1) (pll-p (c .odd1) source asked1 (p1 t))) (λ (f : needsPll1 q ≡ false). vacuous (pllOf (c .odd1) source asked1) f)
+    where
+      weaken : (x : Result Pll) → Holds HasP x → Holds Needed x
+      weaken (refused n) h = tt
+      weaken (ok y) h = λ e. h
+
+      vacuous : (x : Result Pll) → needsPll1 q ≡ false → Holds Needed x
+      vacuous (refused n) f = tt
+      vacuous (ok y) f = λ e. absurd (never (sym e ∙ f))
+
+  plls-agree : 1 ≤ source → Agree SamePlls rules (plls-setup c (configAfter q asked1) [])
+  unfolding plls-setup
+  plls-agree h =
+      rw (or-same (q .hse) 32000000)
+      (agree-then (λ x es b. SamePll 0 [] x es b × Needed x) SamePlls (pllOf (c .odd1) source asked1) (pll-setup 0 (c .odd1) source (pll-config asked1) []) _ _
+      (agree-holds (SamePll 0 []) Needed (pllOf (c .odd1) source asked1) (pll-setup 0 (c .odd1) source (pll-config asked1) []) (pll-agrees 0 source asked1 (c .odd1) [] h) needed-p)
+      (λ x1 es1 b1 s1. rw (s1 .0 .0, s1 .0 .1)
+      (agree-then (SamePll 1 (setupEntries 0 x1)) SamePlls (pllOf (c .odd2) source (pll2Asked q)) (pll-setup 1 (c .odd2) source (pll-config (pll2Asked q)) (setupEntries 0 x1)) _ _ (pll-agrees 1 source (pll2Asked q) (c .odd2) (setupEntries 0 x1) h)
+      (λ x2 es2 b2 s2. rw (s2 .0, s2 .1)
+      (agree-then (λ x es b. SamePll 2 (setupEntries 0 x1 ++ setupEntries 1 x2) x es b × Third x) SamePlls (thirdOf q c) (if-rm0481 (c .three) (pll-setup 2 (c .odd3) source (pll-config (pllAt q 2))) no-pll (setupEntries 0 x1 ++ setupEntries 1 x2)) _ _
+      (agree-holds (SamePll 2 (setupEntries 0 x1 ++ setupEntries 1 x2)) Third (thirdOf q c) (if-rm0481 (c .three) (pll-setup 2 (c .odd3) source (pll-config (pllAt q 2))) no-pll (setupEntries 0 x1 ++ setupEntries 1 x2)) (third-agrees q c (setupEntries 0 x1 ++ setupEntries 1 x2) h) (third-idle q c))
+      (λ x3 es3 b3 s3. (s3 .0 .0 ∙ append-assoc (setupEntries 0 x1) (setupEntries 1 x2) (setupEntries 2 x3), ap (λ (z : PllClocks). record { pll1 = pllClocks x1; pll2 = pllClocks x2; pll3 = z }) (s3 .0 .1), s1 .1, s3 .1)))))))
+
+  some-source : eqb source 0 ≡ false → Agree (SameReady q c) (Rules._>>_ (sourced q) rules) (afterSys c (sysCk q asked1) [])
+  some-source f =
+      rw f
+      (agree-map SamePlls (SameReady q c) rules (plls-setup c (configAfter q asked1) []) (λ l. record { s = sysCk q asked1; plls = l }) (plls-agree (pos-of source f))
+      (λ l es r h. record { asked1 = asked1; entries = h .0; value = ap (λ (z : F.Plls). record { s = sysCk q asked1; plls = z }) (h .1); needed = h .2; third = h .3; states = st }))
+
+  pub after-sys : Agree (SameReady q c) (Rules._>>_ (sourced q) rules) (afterSys c (sysCk q asked1) [])
+  after-sys = by-test (eqb source 0) no-source some-source
+
+-- ---- the MCOs' HSE, and refusal 4
+hse-stated : (a b c : Bool) → a || not (b || c) ≡ true → (b ≡ true → a ≡ true) × (c ≡ true → a ≡ true)
+hse-stated true b c h = (λ e. refl, λ e. refl)
+hse-stated false true c h = absurd (never (sym h))
+hse-stated false false true h = absurd (never (sym h))
+hse-stated false false false h = (λ e. absurd (never (sym e)), λ e. absurd (never (sym e)))
+
+module _ (q : Request) (c : ChipState) where
+  abbrev filled1 : PllRequest
+  filled1 = fillQ (pllAt q 0) (forPll1Q (q .mco1source) (q .mco1))
+
+  mco1-ends : (fromHse1 (q .mco1source) ≡ true → isSet (q .hse) ≡ true) → mco1-setup (config-of q) [] ≡ ends [] (configWith q (q .system) filled1 (pllAt q 1))
+  unfolding mco1-setup
+  mco1-ends h = mco1-fills q (q .system) (pllAt q 0) (pllAt q 1) [] (q .mco1source) h
+
+  mco2-ends : (fromHse2 (q .mco2source) ≡ true → isSet (q .hse) ≡ true) → mco2-setup (configWith q (q .system) filled1 (pllAt q 1)) [] ≡ ends [] (configAfter q (pll1Asked q))
+  unfolding mco2-setup
+  mco2-ends h = mco2-fills q (q .system) filled1 (pllAt q 1) [] (q .mco2source) h
+
+  unstated : isSet (q .hse) || not (fromHse1 (q .mco1source) || fromHse2 (q .mco2source)) ≡ false → afterSetters c (config-of q) [] ≡ panics
+  unfolding mco1-setup mco2-setup
+  unstated f =
+      let u = or-false (isSet (q .hse)) (not (fromHse1 (q .mco1source) || fromHse2 (q .mco2source))) f in
+      let some : fromHse1 (q .mco1source) || fromHse2 (q .mco2source) ≡ true = not-false (fromHse1 (q .mco1source) || fromHse2 (q .mco2source)) (u .1) in
+      by-test (fromHse1 (q .mco1source))
+      (λ (t : fromHse1 (q .mco1source) ≡ true). rw (mco1-panics q (q .system) (pllAt q 0) (pllAt q 1) [] (q .mco1source) t (u .0)))
+      (λ (n : fromHse1 (q .mco1source) ≡ false).
+      let two : fromHse2 (q .mco2source) ≡ true = rw n at some in
+      rw (mco1-fills q (q .system) (pllAt q 0) (pllAt q 1) [] (q .mco1source) (λ e. absurd (never (sym e ∙ n))), mco2-panics q (q .system) filled1 (pllAt q 1) [] (q .mco2source) two (u .0)))
+
+  abbrev afterFill : Result R.Plls
+  afterFill = Rules._>>=_ (forSystemClock (needsPll1 q) (systemOf q) (pll1Asked q)) (λ asked1. Rules._>>_ (sourced q) (rulesFrom q c asked1))
+
+  abbrev P1 : PllRequest → Type 0
+  P1 a = needsPll1 q ≡ true → isSet (a .p) ≡ true
+
+  filled-agrees : Stated q → Agree (SameReady q c) afterFill (afterMco2 c (configAfter q (pll1Asked q)) [])
+  filled-agrees st =
+      agree-then (λ a es s. KeptSys q [] a es s × P1 a) (SameReady q c) (forSystemClock (needsPll1 q) (systemOf q) (pll1Asked q)) (sys-ck-setup (configAfter q (pll1Asked q)) []) _ _
+      (agree-holds (KeptSys q []) P1 (forSystemClock (needsPll1 q) (systemOf q) (pll1Asked q)) (sys-ck-setup (configAfter q (pll1Asked q)) []) (system-agrees q []) (asked-p (needsPll1 q) (systemOf q) (pll1Asked q)))
+      (λ a es s h. rw (h .0 .0, h .0 .1) (after-sys q c st a (h .1)))
+
+  pub plls-ready : Agree (SameReady q c) (pllsOf q c) (ready q c)
+  unfolding pllsOf
+  plls-ready =
+      by-test (within (q .system) && (within (q .ahb) && (within (q .apb1) && (within (q .apb2) && within (q .apb3)))))
+      (λ (t : within (q .system) && (within (q .ahb) && (within (q .apb1) && (within (q .apb2) && within (q .apb3)))) ≡ true).
+      by-test (isSet (q .hse) || not (fromHse1 (q .mco1source) || fromHse2 (q .mco2source)))
+      (λ (s : isSet (q .hse) || not (fromHse1 (q .mco1source) || fromHse2 (q .mco2source)) ≡ true).
+      let h = hse-stated (isSet (q .hse)) (fromHse1 (q .mco1source)) (fromHse2 (q .mco2source)) s in
+      rw (t, s, setters-end q [] t, mco1-ends (h .0), mco2-ends (h .1)) (filled-agrees (record { one = h .0; two = h .1 })))
+      (λ (f : isSet (q .hse) || not (fromHse1 (q .mco1source) || fromHse2 (q .mco2source)) ≡ false). rw (t, f, setters-end q [] t, unstated f) tt))
+      (λ (f : within (q .system) && (within (q .ahb) && (within (q .apb1) && (within (q .apb2) && within (q .apb3)))) ≡ false). rw (f, setters-panic q [] f) tt)

@@ -1,0 +1,85 @@
+-- A list has at most 69 entries (document 01, Register entries).
+use mathlib.Core.Bool.{Bool, true, false}
+use Prim.Native.Nat.{ℕ, _≤_}
+use native.Mathlib.Omega.{arith}
+use lib.ListN.{length, length-append}
+use Rattle.types.specs.declared.Hertz.{Hertz}
+use Rattle.types.specs.declared.Hertz.the-variants.{Unset, Hz}
+use Rattle.types.specs.declared.PllOutput.{PllOutput}
+use Rattle.types.specs.declared.PllOutput.the-variants.{Off, On}
+use Rattle.types.specs.declared.Fraction.{Fraction}
+use Rattle.types.specs.declared.Fraction.the-variants.{Whole, Part}
+use Rattle.types.specs.declared.Pll.{Pll}
+use Rattle.types.specs.declared.Pll.the-variants.{Idle, Runs}
+use Rattle.types.specs.declared.Plan.{Plan}
+use Rattle.types.specs.declared.Answer.{Answer}
+use Rattle.types.specs.declared.Answer.the-variants.{Accepted, Refused}
+use Rattle.types.specs.declared.Planned.{Planned}
+use Rattle.rules.specs.Document01.Fields
+use Rattle.rules.specs.Document01.Fields.{ofPll}
+use Rattle.rules.specs.Document01.Entries.{outputEntries, fractionEntries, settingEntries, setupEntries, pllIn, clockEntries, hseEntries, sourceEntries, outputStart, startEntries, busEntries, planEntries, answerEntries, entriesOf}
+
+output-length : (d e : ℕ) (o : PllOutput) → length (outputEntries d e o) ≤ 2
+output-length d e Off = omega arith
+output-length d e (On x h) = omega arith
+
+fraction-length : (k : ℕ) (f : Fraction) → length (fractionEntries k f) ≤ 3
+fraction-length k Whole = omega arith
+fraction-length k (Part f) = omega arith
+
+setup-length : (k : ℕ) (x : Pll) → length (setupEntries k x) ≤ 13
+unfolding settingEntries
+setup-length k Idle = omega arith
+setup-length k (Runs s) =
+    let f = fraction-length k (s .fraction) in
+    let p = output-length (ofPll k Fields.P) (ofPll k Fields.PEN) (s .p) in
+    let q = output-length (ofPll k Fields.Q) (ofPll k Fields.QEN) (s .q) in
+    let r = output-length (ofPll k Fields.R) (ofPll k Fields.REN) (s .r) in
+    simp length-append (omega arith)
+
+hse-length : (h : Hertz) (b : Bool) → length (hseEntries h b) ≤ 2
+hse-length Unset b = omega arith
+hse-length (Hz h) b = omega arith
+
+source-length : (t : Bool) (s : ℕ) → length (sourceEntries t s) ≤ 3
+source-length true s = omega arith
+source-length false s = omega arith
+
+output-start-length : (k : ℕ) (o : PllOutput) → length (outputStart k o) ≤ 2
+output-start-length k Off = omega arith
+output-start-length k (On d h) = omega arith
+
+start-length : (k : ℕ) (x : Pll) → length (startEntries k x) ≤ 2
+start-length k Idle = omega arith
+start-length k (Runs s) = output-start-length k (s .p)
+
+clock-length : (p : Plan) → length (clockEntries p) ≤ 9
+unfolding clockEntries
+clock-length p = omega arith
+
+bus-length : (p : Plan) → length (busEntries p) ≤ 10
+unfolding busEntries
+bus-length p = omega arith
+
+plan-length : (p : Plan) → length (planEntries p) ≤ 69
+unfolding planEntries
+plan-length p =
+    let setup0 = setup-length 0 (pllIn p 0) in
+    let setup1 = setup-length 1 (pllIn p 1) in
+    let setup2 = setup-length 2 (pllIn p 2) in
+    let clocks = clock-length p in
+    let hse = hse-length (p .hse) (p .bypass) in
+    let sources = source-length (p .three) (p .src) in
+    let start0 = start-length 0 (pllIn p 0) in
+    let start1 = start-length 1 (pllIn p 1) in
+    let start2 = start-length 2 (pllIn p 2) in
+    let buses = bus-length p in
+    simp length-append (omega arith)
+
+answer-length : (a : Answer) (p : Plan) → length (answerEntries a p) ≤ 69
+answer-length Accepted p = plan-length p
+answer-length (Refused n) p = omega arith
+
+pub at-most-69 : (x : Planned) → length (entriesOf x) ≤ 69
+unfolding entriesOf
+at-most-69 x = answer-length (x .answer) (x .plan)

@@ -1,0 +1,2 @@
+pub mod OnePll
+pub mod Plan

@@ -1,0 +1,4 @@
+pub mod Paths
+pub mod Chains
+pub mod Firm
+pub mod Worked

@@ -1,0 +1,10 @@
+pub mod Steps
+pub mod PllFacts
+pub mod BusFacts
+pub mod Own
+pub mod Segments
+pub mod Words
+pub mod Consistent
+pub mod Clocks
+pub mod Link
+pub mod Bench

@@ -1,0 +1,124 @@
+-- Document 01, Register entries: the list of a plan, in order, segment by segment.
+use mathlib.Core.List.{List, [], _∷_, _++_}
+use mathlib.Core.Bool.{Bool, true, false, cond}
+use Prim.Native.Nat.{ℕ, _-_}
+use lib.Dec.{ltb}
+use lib.ListN.{getD}
+use Rattle.types.specs.declared.Entry.{Entry}
+use Rattle.types.specs.declared.Entry.the-variants.{Set, Set2, Set3, Set4, Wait, Wait2, Check}
+use Rattle.types.specs.declared.Hertz.{Hertz}
+use Rattle.types.specs.declared.Hertz.the-variants.{Unset, Hz}
+use Rattle.types.specs.declared.PllOutput.{PllOutput}
+use Rattle.types.specs.declared.PllOutput.the-variants.{Off, On}
+use Rattle.types.specs.declared.Fraction.{Fraction}
+use Rattle.types.specs.declared.Fraction.the-variants.{Whole, Part}
+use Rattle.types.specs.declared.PllSettings.{PllSettings}
+use Rattle.types.specs.declared.Pll.{Pll}
+use Rattle.types.specs.declared.Pll.the-variants.{Idle, Runs}
+use Rattle.types.specs.declared.Plan.{Plan}
+use Rattle.types.specs.declared.Answer.{Answer}
+use Rattle.types.specs.declared.Answer.the-variants.{Accepted, Refused}
+use Rattle.types.specs.declared.Planned.{Planned}
+use Rattle.rules.specs.Document01.Fields.{ofPll}
+use Rattle.rules.specs.Document01.Fields
+
+-- for P, Q, R: divider − 1 then enable, or disable alone
+abbrev pub outputEntries : (divider enable : ℕ) → PllOutput → List Entry
+outputEntries divider enable Off = Set enable 0 ∷ []
+outputEntries divider enable (On d h) = Set divider (d - 1) ∷ Set enable 1 ∷ []
+
+-- if Fractional FRACN, FRACEN 0, FRACEN 1
+abbrev pub fractionEntries : (k : ℕ) → Fraction → List Entry
+fractionEntries k Whole = []
+fractionEntries k (Part f) = Set (ofPll k Fields.FRACN) f ∷ Set (ofPll k Fields.FRACEN) 0 ∷ Set (ofPll k Fields.FRACEN) 1 ∷ []
+
+-- VCOSEL; RGE; M; N − 1
+abbrev pub baseEntries : (k : ℕ) → PllSettings → List Entry
+baseEntries k s =
+    Set (ofPll k Fields.VCOSEL) (s .vcosel) ∷ Set (ofPll k Fields.RGE) (s .rge) ∷ Set (ofPll k Fields.M) (s .m)
+    ∷ Set (ofPll k Fields.N) (s .n - 1) ∷ []
+
+-- what sets PLL k up, from 0
+unfoldable pub settingEntries : (k : ℕ) → PllSettings → List Entry
+settingEntries k s =
+    baseEntries k s
+    ++ (fractionEntries k (s .fraction)
+    ++ (outputEntries (ofPll k Fields.P) (ofPll k Fields.PEN) (s .p)
+    ++ (outputEntries (ofPll k Fields.Q) (ofPll k Fields.QEN) (s .q)
+    ++ outputEntries (ofPll k Fields.R) (ofPll k Fields.REN) (s .r))))
+
+abbrev pub setupEntries : (k : ℕ) → Pll → List Entry
+setupEntries k Idle = []
+setupEntries k (Runs s) = settingEntries k s
+
+abbrev pub pllIn : Plan → ℕ → Pll
+pllIn p k = getD (p .plls) k (record { pll = Idle }) .pll
+
+-- PRFTEN: 1 if latency is above 0
+abbrev pub prftenOf : ℕ → ℕ
+prftenOf latency = cond (ltb 0 latency) 1 0
+
+-- LSI, flash, CSI, HSI48 and the MCOs
+unfoldable pub clockEntries : Plan → List Entry
+clockEntries p =
+    Set Fields.LSION 1 ∷ Wait Fields.LSIRDY 1
+    ∷ Set3 Fields.WRHIGHFREQ (p .delay) Fields.LATENCY (p .latency) Fields.PRFTEN (prftenOf (p .latency)) ∷ Wait Fields.LATENCY (p .latency)
+    ∷ Set Fields.CSION 1 ∷ Wait Fields.CSIRDY 1
+    ∷ Set Fields.HSI48ON 1 ∷ Wait Fields.HSI48RDY 1
+    ∷ Set4 Fields.MCO1SEL (p .mco1sel) Fields.MCO1PRE (p .mco1pre) Fields.MCO2SEL (p .mco2sel) Fields.MCO2PRE (p .mco2pre) ∷ []
+
+abbrev pub bit : Bool → ℕ
+bit true = 1
+bit false = 0
+
+-- with HSE: HSEON, HSEBYP together, wait HSERDY
+abbrev pub hseEntries : Hertz → (bypass : Bool) → List Entry
+hseEntries Unset bypass = []
+hseEntries (Hz h) bypass = Set2 Fields.HSEON 1 Fields.HSEBYP (bit bypass) ∷ Wait Fields.HSERDY 1 ∷ []
+
+-- each PLL's SRC, all of them: three on a chip with three PLLs
+abbrev pub sourceEntries : (three : Bool) → (src : ℕ) → List Entry
+sourceEntries true src = Set (ofPll 0 Fields.SRC) src ∷ Set (ofPll 1 Fields.SRC) src ∷ Set (ofPll 2 Fields.SRC) src ∷ []
+sourceEntries false src = Set (ofPll 0 Fields.SRC) src ∷ Set (ofPll 1 Fields.SRC) src ∷ []
+
+-- a PLL is started when it has P
+abbrev pub outputStart : (k : ℕ) → PllOutput → List Entry
+outputStart k Off = []
+outputStart k (On d h) = Set (ofPll k Fields.ON) 1 ∷ Wait (ofPll k Fields.RDY) 1 ∷ []
+
+abbrev pub startEntries : (k : ℕ) → Pll → List Entry
+startEntries k Idle = []
+startEntries k (Runs s) = outputStart k (s .p)
+
+-- the prescalers, the selectors and the compensation cell
+unfoldable pub busEntries : Plan → List Entry
+busEntries p =
+    Set4 Fields.HPRE (p .hpre) Fields.PPRE1 (p .ppre1) Fields.PPRE2 (p .ppre2) Fields.PPRE3 (p .ppre3) ∷ Wait Fields.HPRE (p .hpre)
+    ∷ Set Fields.CKPERSEL (p .ckpersel)
+    ∷ Set Fields.TIMPRE 0
+    ∷ Set Fields.SW (p .sw) ∷ Wait Fields.SWS (p .sw)
+    ∷ Check Fields.CSIRDY 1
+    ∷ Set Fields.SBSEN 1
+    ∷ Set4 Fields.EN1 1 Fields.CS1 0 Fields.EN2 1 Fields.CS2 0 ∷ Wait2 Fields.RDY1 1 Fields.RDY2 1 ∷ []
+
+-- the whole list of a plan
+unfoldable pub planEntries : Plan → List Entry
+planEntries p =
+    setupEntries 0 (pllIn p 0)
+    ++ (setupEntries 1 (pllIn p 1)
+    ++ (setupEntries 2 (pllIn p 2)
+    ++ (clockEntries p
+    ++ (hseEntries (p .hse) (p .bypass)
+    ++ (sourceEntries (p .three) (p .src)
+    ++ (startEntries 0 (pllIn p 0)
+    ++ (startEntries 1 (pllIn p 1)
+    ++ (startEntries 2 (pllIn p 2)
+    ++ busEntries p))))))))
+
+-- a refused request has no entry
+abbrev pub answerEntries : Answer → Plan → List Entry
+answerEntries Accepted p = planEntries p
+answerEntries (Refused n) p = []
+
+unfoldable pub entriesOf : Planned → List Entry
+entriesOf x = answerEntries (x .answer) (x .plan)

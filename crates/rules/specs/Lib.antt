@@ -1,0 +1,4 @@
+pub mod Document01
+pub mod Rust
+pub mod Manual
+pub mod Demands

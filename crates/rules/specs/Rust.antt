@@ -1,0 +1,5 @@
+-- The Rust, file by file, with its names.
+pub mod Run
+pub mod Pll
+pub mod Mco
+pub mod Rcc

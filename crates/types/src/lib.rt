@@ -1,0 +1,222 @@
+// What a request, the chip's state, a plan, a register entry and an answer are. Types only: what is right is said in crates/rules/specs.
+
+// A frequency in hertz, where one is set: the Rust's Option<u32>.
+pub enum Hertz {
+    Unset,
+    Hz(u32),
+}
+
+pub enum Strategy {
+    Integer,
+    Fractional,
+}
+
+pub enum Mco1Source {
+    Hsi,
+    Lse,
+    Hse,
+    Pll1Q,
+    Hsi48,
+}
+
+pub enum Mco2Source {
+    Sysclk,
+    Pll2P,
+    Hse,
+    Pll1P,
+    Csi,
+    Lsi,
+}
+
+pub struct PllRequest {
+    pub strategy: Strategy,
+    pub p: Hertz,
+    pub q: Hertz,
+    pub r: Hertz,
+}
+
+// The PLLs stand by their number: PLL1 first. On a chip with two PLLs the third is not looked at.
+pub struct Request {
+    pub hse: Hertz,
+    pub lse: Hertz,
+    pub audio: Hertz,
+    pub system: Hertz,
+    pub peripheral: Hertz,
+    pub ahb: Hertz,
+    pub apb1: Hertz,
+    pub apb2: Hertz,
+    pub apb3: Hertz,
+    pub bypass: bool,
+    pub mco1source: Mco1Source,
+    pub mco1: Hertz,
+    pub mco2source: Mco2Source,
+    pub mco2: Hertz,
+    pub plls: [PllRequest; 3],
+}
+
+pub enum Scale {
+    Scale0,
+    Scale1,
+    Scale2,
+    Scale3,
+}
+
+// The chip as it is handed in: the PLL count, for each PLL whether P may divide by an odd number (0 or 1), the voltage scale's
+// number, and HSION and HSIDIV as read. Any number can stand in any place; refusal 1 judges them.
+pub struct Chip {
+    pub plls: u32,
+    pub odd1: u32,
+    pub odd2: u32,
+    pub odd3: u32,
+    pub scale: u32,
+    pub hsion: u32,
+    pub hsidiv: u32,
+}
+
+// The chip as the rules see it: whether there are three PLLs, the permissions, the scale, HSION, and the divisor that HSIDIV stands for.
+pub struct ChipState {
+    pub three: bool,
+    pub odd1: bool,
+    pub odd2: bool,
+    pub odd3: bool,
+    pub scale: Scale,
+    pub hsion: bool,
+    pub hsidiv: u32,
+}
+
+// The listed refusals, 1 to 24 in this order; specs/Document01/Refusals of crates/rules gives each its number.
+pub enum Refusal {
+    OutsideCodes,
+    BankLength,
+    AboveLimit,
+    McoHseUnstated,
+    Pll1PUnlikeSystem,
+    SourceZero,
+    OutputZero,
+    OutputsTooFarApart,
+    OutputTooHigh,
+    TargetOutside,
+    NoM,
+    NOutside,
+    FracnOutside,
+    PDividerAbove128,
+    PDividerOdd,
+    HsiOff,
+    HsidivNot2,
+    BusZero,
+    AhbZero,
+    Mco1Lse,
+    McoNoOutput,
+    McoZero,
+    McoRatio,
+    CsiDown,
+}
+
+// A register entry: up to four fields with the values to set together, up to two to wait for, one to check, or one to read.
+pub enum Entry {
+    Set(usize, u32),
+    Set2(usize, u32, usize, u32),
+    Set3(usize, u32, usize, u32, usize, u32),
+    Set4(usize, u32, usize, u32, usize, u32, usize, u32),
+    Wait(usize, u32),
+    Wait2(usize, u32, usize, u32),
+    Check(usize, u32),
+    Read(usize),
+}
+
+// An output of a PLL: its divider and its clock in hertz.
+pub enum PllOutput {
+    Off,
+    On(u32, u32),
+}
+
+// What is added to N: nothing in Integer strategy, FRACN / 8192 in Fractional.
+pub enum Fraction {
+    Whole,
+    Part(u32),
+}
+
+// What is chosen for a PLL that has an output requested.
+pub struct PllSettings {
+    pub vcosel: u32,
+    pub target: u32,
+    pub m: u32,
+    pub reference: u32,
+    pub rge: u32,
+    pub n: u32,
+    pub fraction: Fraction,
+    pub vco: u32,
+    pub p: PllOutput,
+    pub q: PllOutput,
+    pub r: PllOutput,
+}
+
+pub enum Pll {
+    Idle,
+    Runs(PllSettings),
+}
+
+// One PLL of a plan.
+pub struct PllPlan {
+    pub pll: Pll,
+}
+
+// A whole plan: the clocks reported in hertz, the numbers chosen for the fields, and the PLLs by their number.
+pub struct Plan {
+    pub sys: u32,
+    pub hclk: u32,
+    pub pclk1: u32,
+    pub pclk2: u32,
+    pub pclk3: u32,
+    pub timx: u32,
+    pub timy: u32,
+    pub per: u32,
+    pub hsi: u32,
+    pub csi: u32,
+    pub hsi48: u32,
+    pub lsi: u32,
+    pub hse: Hertz,
+    pub lse: Hertz,
+    pub audio: Hertz,
+    pub mco1: Hertz,
+    pub mco2: Hertz,
+    pub three: bool,
+    pub plls: [PllPlan; 3],
+    pub src: u32,
+    pub sw: u32,
+    pub bypass: bool,
+    pub hpre: u32,
+    pub ppre1: u32,
+    pub ppre2: u32,
+    pub ppre3: u32,
+    pub ckpersel: u32,
+    pub mco1sel: u32,
+    pub mco1pre: u32,
+    pub mco2sel: u32,
+    pub mco2pre: u32,
+    pub latency: u32,
+    pub delay: u32,
+}
+
+pub enum Answer {
+    Accepted,
+    Refused(Refusal),
+}
+
+// The answer to a request. Beside a refusal stands the blank plan.
+pub struct Planned {
+    pub answer: Answer,
+    pub plan: Plan,
+}
+
+// What the search for the reference divider M finds.
+pub enum FoundM {
+    Nothing,
+    M(u32),
+}
+
+// What the FRACN step gives.
+pub enum Fracn {
+    Value(u16),
+    OutOfRange,
+}
