@@ -2,3 +2,4 @@ pub mod Cut
 pub mod Round
 pub mod Values
 pub mod Same
+pub mod Examples

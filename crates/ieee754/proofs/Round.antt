@@ -1,4 +1,4 @@
--- `rounded` over whole numbers: it keeps the order of fractions, is exact where 24 digits are enough, and so lies between powers of two as its fraction does. Assumes nothing.
+-- `rounded` over whole numbers: it keeps the order of fractions, is exact where 24 digits are enough, and so lies between powers of two as its fraction does.
 use mathlib.Core.Path.{_≡_, refl, sym, ap, _∙_, subst}
 use mathlib.Core.Logic.{inl, inr}
 use Prim.Native.Nat.{ℕ, zero, suc, _+_, _-_, _*_, _/_, _%_, _^_, _≤_, _<_, zero-le, compare, Ordering, Ordering·lt, compare·zero-suc}

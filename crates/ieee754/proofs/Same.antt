@@ -1,4 +1,4 @@
--- At f32 values of whole numbers below 2 ^ 32, the f32 definitions are the definitions over whole numbers. Nothing overflows there: every value is below 2 ^ 97. Assumes nothing.
+-- At f32 values of whole numbers below 2 ^ 32, the f32 definitions are the definitions over whole numbers. Nothing overflows there: every value is below 2 ^ 97.
 use mathlib.Core.Path.{_≡_, refl, sym, ap, _∙_, subst}
 use Prim.Native.Nat.{ℕ, _+_, _-_, _*_, _/_, _^_, _≤_, _<_, min}
 use native.Mathlib.Nat.{le-trans, le-of-eq, le-of-lt, lt-of-le-of-lt, lt-of-lt-of-le, mul-one, mul-assoc, mul-right-comm, mul-pos, mul-le-mul, mul-le-mul-left, mul-le-mul-right, add-le-add, one-mul, le-of-suc-le-suc, div-lt-iff-lt-mul}
@@ -118,7 +118,7 @@ cut-same x f h =
     ∙ ap (λ (z : ℕ). accept (leb f (8191 * unit)) z) (cut-val 16 x f unit unit-pos h)
     ∙ go (leb f (8191 * unit)) refl
   where
-    small : (q : ℕ) → q ≤ 8191 → min q 65535 ≡ q
+    small : (q : ℕ) → q ≤ 8191 → min q 65_535 ≡ q
     small q h = omega arith
 
     go : (t : Bool) → leb f (8191 * unit) ≡ t → accept t (min (f / unit) (2 ^ 16 - 1)) ≡ accept t (f / unit)

@@ -1,5 +1,5 @@
--- What `calc_fracn` and `calc_vco_ck` work out, as f32 operations in the Rust's order, each rounded once (`lib.Ieee`). Definitions only.
--- Assumes nothing.
+-- What `calc_fracn` and `calc_vco_ck` work out, as f32 operations in the Rust's order, each rounded once (`lib.Ieee`).
+
 use Prim.Native.Nat.{ℕ}
 use mathlib.Core.Bool.{Bool, true, false, _&&_}
 use lib.IntN.{pos}
@@ -15,6 +15,7 @@ float n = ofInt binary32 (pos n)
 abbrev pub fracnFloat : Float → Float → Float → Float → Float
 fracnFloat ref n divider output = mul binary32 (float 8192) (sub binary32 (div binary32 (mul binary32 output divider) ref) n)
 
+-- a value that is in range, or refused
 abbrev pub accept : Bool → ℕ → Fracn
 accept true v = Value v
 accept false v = OutOfRange
@@ -23,6 +24,7 @@ accept false v = OutOfRange
 abbrev pub fracnCut : Float → Fracn
 fracnCut f = accept (le (float 0) f && le f (float 8191)) (toUnsigned 16 f)
 
+-- document 01, One PLL, FRACN: calc_fracn of pll.rs
 unfoldable pub fracnOf : Float → Float → Float → Float → Fracn
 fracnOf ref n divider output = fracnCut (fracnFloat ref n divider output)
 

@@ -1,6 +1,6 @@
 -- The same two results over whole numbers alone. A number is a count of `unit`s: 2 ^ -149, the smallest f32 above 0. An f32 keeps 24 binary digits.
--- `size n` is how many binary digits n has, and `closest a b` is a / b to the nearest whole number, a tie to the even one (`lib.Ieee`, `lib.Ieee.Nearest`). Definitions only.
--- Assumes nothing.
+-- `size n` is how many binary digits n has, and `closest a b` is a / b to the nearest whole number, a tie to the even one (`lib.Ieee`, `lib.Ieee.Nearest`).
+
 use Prim.Native.Nat.{ℕ, _+_, _-_, _*_, _/_, _^_, min}
 use mathlib.Core.Bool.{Bool, _&&_}
 use lib.Dec.{leb}
@@ -24,15 +24,19 @@ rounded num den =
 abbrev pub whole : ℕ → ℕ
 whole n = rounded n 1
 
+-- a × b
 abbrev pub times : ℕ → ℕ → ℕ
 times a b = rounded (a * b) (unit * unit)
 
+-- a / b
 abbrev pub over : ℕ → ℕ → ℕ
 over a b = rounded a b
 
+-- a + b
 abbrev pub plus : ℕ → ℕ → ℕ
 plus a b = rounded (a + b) unit
 
+-- a − b
 abbrev pub less : ℕ → ℕ → ℕ
 less a b = rounded (a - b) unit
 

@@ -1,3 +1,4 @@
+pub mod Keeps
 pub mod Agree
 pub mod Numbers
 pub mod Flash
@@ -14,3 +15,4 @@ pub mod Plls
 pub mod Split
 pub mod Writes
 pub mod Whole
+pub mod Departures

@@ -1,6 +1,14 @@
 pub mod ChoiceOfM
 pub mod Target
-pub mod Holds
+pub mod Results
 pub mod Span
+pub mod Multiplier
+pub mod Refusals
+pub mod RefusalsOfCalls
+pub mod Bytes
+pub mod BytesWhole
+pub mod Layout
 pub mod Length
 pub mod Last
+pub mod Walk
+pub mod ResetReason

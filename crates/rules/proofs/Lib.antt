@@ -3,4 +3,9 @@ pub mod Manual
 pub mod Legal
 pub mod Agreement
 pub mod Readings
+pub mod Samples
+pub mod Computes
 pub mod Settings
+pub mod EveryRefusal
+pub mod Differences
+pub mod Demands

@@ -1,4 +1,3 @@
-pub mod Steps
 pub mod PllFacts
 pub mod BusFacts
 pub mod Own
@@ -7,4 +6,4 @@ pub mod Words
 pub mod Consistent
 pub mod Clocks
 pub mod Link
-pub mod Bench
+pub mod NonVacuous

@@ -1,161 +1,135 @@
--- Bench settings of document 01, computed from the rules.
+-- The bench settings of document 01, A to O, in one table: each request as bytes, the chip, and the numbers stated or the refusal. One theorem
+-- over all of them, computed on a chip with two PLLs and on one with three.
 use mathlib.Core.Path.{_≡_, refl}
-use mathlib.Core.List.{List, [], _∷_}
-use mathlib.Core.Bool.{Bool, true, false}
+use mathlib.Core.List.{List, [], _∷_, _++_, map}
+use mathlib.Core.Bool.{true, false}
 use Prim.Native.Nat.{ℕ}
-use Rattle.types.specs.declared.Hertz.{Hertz}
 use Rattle.types.specs.declared.Hertz.the-variants.{Unset, Hz}
 use Rattle.types.specs.declared.Strategy.the-variants.{Integer, Fractional}
 use Rattle.types.specs.declared.Mco1Source.{Mco1Source}
-use Rattle.types.specs.declared.Mco2Source.{Mco2Source}
-use Rattle.types.specs.declared.PllRequest.{PllRequest}
 use Rattle.types.specs.declared.Request.{Request}
-use Rattle.types.specs.declared.Scale.the-variants.{Scale0}
-use Rattle.types.specs.declared.ChipState.{ChipState}
 use Rattle.types.specs.declared.Fraction.{Fraction}
 use Rattle.types.specs.declared.Fraction.the-variants.{Whole, Part}
 use Rattle.types.specs.declared.PllOutput.{PllOutput}
 use Rattle.types.specs.declared.PllOutput.the-variants.{Off, On}
 use Rattle.types.specs.declared.PllSettings.{PllSettings}
-use Rattle.types.specs.declared.Pll.{Pll}
-use Rattle.types.specs.declared.Pll.the-variants.{Idle, Runs}
-use Rattle.types.specs.declared.Answer.{Answer}
-use Rattle.types.specs.declared.Answer.the-variants.{Accepted, Refused}
-use Rattle.types.specs.declared.Planned.{Planned}
-use Rattle.rules.specs.Document01.ChoiceOfM.{inRange, shortfallOf, betterOf, bestTo, chosenM}
-use Rattle.rules.specs.Document01.Target.{topOf, targetOf}
-use Rattle.ieee754.specs.Steps.{fracnOf, vcoOf}
-use Rattle.rules.specs.Document01.Refusals.{numberOf}
-use Rattle.rules.specs.Document01.Hertz.{ratioOf}
-use Rattle.rules.specs.Document01.Request.{forSystemClock}
-use Rattle.rules.specs.Document01.OnePll.{spanned, dividedBy, settled, runs, pllOf}
-use Rattle.rules.specs.Document01.Buses.{peripheralOf, ahbOf, apbOf, timerOf}
-use Rattle.rules.specs.Document01.Mco.{mco1Input, mco2Input, mcoOf}
-use Rattle.rules.specs.Document01.Flash.{atColumn, flashOf}
-use Rattle.rules.specs.Document01.Plan.{pllsOf, busesOf, mcosOf, planWith, chosenPlan, blankPlan, planOf}
-use Rattle.rules.specs.Document01.Entries.{pllIn}
+use Rattle.types.specs.declared.Plan.{Plan}
+use Rattle.rules.specs.Document01.Bytes.{requestBytes}
+use Rattle.rules.specs.Document01.Plan.{planOf}
+use Rattle.rules.proofs.Computes.{byRules}
+use Rattle.rules.proofs.Samples.{pll, none, clocks, onHsi, onHse, system, mco1From, chip, look, inPll1, inPll2}
 
-abbrev none : PllRequest
-none = record { strategy = Integer; p = Unset; q = Unset; r = Unset }
+-- ---- what is looked at
+-- M, N, FRACN and divider, by settings
+abbrev fracnIn : Fraction → ℕ
+fracnIn Whole = 0
+fracnIn (Part f) = f
 
-abbrev only : Hertz → PllRequest
-only p = record { strategy = Integer; p = p; q = Unset; r = Unset }
+abbrev dividerIn : PllOutput → ℕ
+dividerIn Off = 0
+dividerIn (On d h) = d
 
--- HSE, system, AHB, MCO1 from HSI, PLL2
-abbrev request : Hertz → Hertz → Hertz → Hertz → PllRequest → Request
-request hse system ahb mco1 pll2 = record {
-  hse = hse;
-  lse = Unset;
-  audio = Unset;
-  system = system;
-  peripheral = Unset;
-  ahb = ahb;
-  apb1 = Unset;
-  apb2 = Unset;
-  apb3 = Unset;
-  bypass = false;
-  mco1source = Mco1Source.Hsi;
-  mco1 = mco1;
-  mco2source = Mco2Source.Sysclk;
-  mco2 = Unset;
-  plls = none ∷ pll2 ∷ none ∷ [];
-}
+abbrev hertzIn : PllOutput → ℕ
+hertzIn Off = 0
+hertzIn (On d h) = h
 
--- odd P allowed, or forbidden, on every PLL; Scale0
-abbrev chip : Bool → ChipState
-chip odd = record { three = true; odd1 = odd; odd2 = odd; odd3 = odd; scale = Scale0; hsion = true; hsidiv = 2 }
+-- VCOSEL (0 wide, 1 medium), M, N, P's divider
+abbrev dividers : PllSettings → List ℕ
+dividers s = s .vcosel ∷ s .m ∷ s .n ∷ dividerIn (s .p) ∷ []
 
-abbrev fractionNumbers : Fraction → List ℕ
-fractionNumbers Whole = []
-fractionNumbers (Part f) = f ∷ []
+-- M, reference, N, P's divider, FRACN, VCO, P's hertz
+abbrev fractional : PllSettings → List ℕ
+fractional s = s .m ∷ s .reference ∷ s .n ∷ dividerIn (s .p) ∷ fracnIn (s .fraction) ∷ s .vco ∷ hertzIn (s .p) ∷ []
 
-abbrev outputNumbers : PllOutput → List ℕ
-outputNumbers Off = []
-outputNumbers (On d h) = d ∷ h ∷ []
+abbrev pHertz : PllSettings → List ℕ
+pHertz s = hertzIn (s .p) ∷ []
 
--- VCOSEL, target, M, reference, N, VCO; FRACN; P's divider and clock
-abbrev settingNumbers : PllSettings → List ℕ
-settingNumbers s = s .vcosel ∷ s .target ∷ s .m ∷ s .reference ∷ s .n ∷ s .vco ∷ fractionNumbers (s .fraction)
+abbrev qDivider : PllSettings → List ℕ
+qDivider s = dividerIn (s .q) ∷ []
 
-abbrev pllNumbers : Pll → List ℕ
-pllNumbers Idle = []
-pllNumbers (Runs s) = settingNumbers s
+abbrev vcosel : PllSettings → List ℕ
+vcosel s = s .vcosel ∷ []
 
-abbrev pOf : Pll → List ℕ
-pOf Idle = []
-pOf (Runs s) = outputNumbers (s .p)
+-- target, P's divider
+abbrev target : PllSettings → List ℕ
+target s = s .target ∷ dividerIn (s .p) ∷ []
 
-abbrev answerNumbers : Answer → List ℕ → List ℕ
-answerNumbers Accepted ns = ns
-answerNumbers (Refused n) ns = numberOf n ∷ []
+abbrev divisorM : PllSettings → List ℕ
+divisorM s = s .m ∷ []
 
--- PLL k of a plan, or the refusal
-abbrev pllIs : ℕ → Planned → List ℕ
-pllIs k x = answerNumbers (x .answer) (pllNumbers (pllIn (x .plan) k))
+-- of the whole plan
+-- HPRE, AHB
+abbrev ahb : Plan → List ℕ
+ahb p = p .hpre ∷ p .hclk ∷ []
 
-abbrev pIs : ℕ → Planned → List ℕ
-pIs k x = answerNumbers (x .answer) (pOf (pllIn (x .plan) k))
+abbrev latency : Plan → List ℕ
+latency p = p .latency ∷ []
 
--- system, AHB, HPRE, latency, delay, MCO1 prescaler, or the refusal
-abbrev busIs : Planned → List ℕ
-busIs x = answerNumbers (x .answer) (x .plan .sys ∷ x .plan .hclk ∷ x .plan .hpre ∷ x .plan .latency ∷ x .plan .delay ∷ x .plan .mco1pre ∷ [])
+abbrev mco1 : Plan → List ℕ
+mco1 p = p .mco1pre ∷ []
 
-abbrev fractional : ℕ → PllRequest
-fractional p = record { strategy = Fractional; p = Hz p; q = Unset; r = Unset }
+-- ---- a setting: its request, odd P allowed (1) or forbidden (0), what is looked at, and what is stated of it; of a refusal, its number
+pub record Setting : Type 0 where
+  pub request : Request
+  pub odd : ℕ
+  pub looks : Plan → List ℕ
+  pub stated : List ℕ
 
-abbrev pq : ℕ → ℕ → PllRequest
-pq p q = record { strategy = Integer; p = Hz p; q = Hz q; r = Unset }
+abbrev is : Request → ℕ → (Plan → List ℕ) → List ℕ → Setting
+is q odd looks stated = record { request = q; odd = odd; looks = looks; stated = stated }
 
-abbrev pll2 : PllRequest → Bool → Planned
-pll2 a odd = planOf (request Unset Unset Unset Unset a) (chip odd)
+abbrev refused : Request → ℕ → ℕ → Setting
+refused q odd number = is q odd (λ p. []) (number ∷ [])
 
-abbrev system : Hertz → ℕ → Hertz → Bool → Planned
-system hse s ahb odd = planOf (request hse (Hz s) ahb Unset none) (chip odd)
-
-abbrev hse : ℕ → Hertz → Planned
-hse h ahb = planOf (request (Hz h) Unset ahb Unset none) (chip true)
-
-abbrev got : List (List ℕ)
-got =
-    pllIs 0 (system Unset 250000000 Unset false) ∷ pIs 0 (system Unset 250000000 Unset false) ∷ busIs (system Unset 250000000 Unset false)
-    ∷ pllIs 0 (system Unset 250000000 Unset true) ∷ pIs 0 (system Unset 250000000 Unset true)
-    ∷ pllIs 1 (pll2 (fractional 12288000) true) ∷ pIs 1 (pll2 (fractional 12288000) true)
-    ∷ pIs 1 (pll2 (only (Hz 12288000)) true)
-    ∷ pllIs 1 (pll2 (only (Hz 419999999)) true) ∷ pllIs 1 (pll2 (only (Hz 420000000)) true) ∷ pllIs 1 (pll2 (only (Hz 560000000)) true)
-    ∷ pllIs 1 (pll2 (only (Hz 1634242)) true) ∷ pIs 1 (pll2 (only (Hz 1634242)) true) ∷ pllIs 1 (pll2 (only (Hz 1634241)) true)
-    ∷ pllIs 1 (pll2 (pq 200000000 1562499) true)
-    ∷ pllIs 1 (pll2 (only (Hz 1000000)) false) ∷ pllIs 1 (pll2 (pq 80000000 200000000) false)
-    ∷ pIs 1 (pll2 (pq 30000000 100000000) true)
-    ∷ busIs (system Unset 250000000 (Hz 50000000) true)
-    ∷ busIs (system Unset 32000000 (Hz 820513) true) ∷ busIs (system Unset 32000000 (Hz 820512) true)
-    ∷ busIs (planOf (request Unset Unset Unset (Hz 2133334) none) (chip true)) ∷ busIs (planOf (request Unset Unset Unset (Hz 2133333) none) (chip true))
-    ∷ busIs (hse 42000000 Unset) ∷ busIs (hse 42000001 Unset) ∷ busIs (hse 251000001 Unset)
-    ∷ busIs (hse 100 (Hz 1))
-    ∷ pllIs 1 (planOf (request (Hz 126000000) Unset Unset Unset (only (Hz 250000000))) (chip true))
-    ∷ pllIs 1 (planOf (request (Hz 126000001) Unset Unset Unset (only (Hz 250000000))) (chip true))
+abbrev pub settings : List Setting
+settings =
+    -- A* odd forbidden, system 250,000,000: wide, M 8, N 125, P 2; Scale0 latency 5. B* odd allowed: medium, M 16, N 125, P 1
+    is (system 250_000_000 Unset) 0 (inPll1 dividers) (0 ∷ 8 ∷ 125 ∷ 2 ∷ [])
+    ∷ is (system 250_000_000 Unset) 0 latency (5 ∷ [])
+    ∷ is (system 250_000_000 Unset) 1 (inPll1 dividers) (1 ∷ 16 ∷ 125 ∷ 1 ∷ [])
+    -- C* PLL2 Fractional P 12,288,000: M 18, ref 1,777,777, N 235, divider 34, FRACN 66, VCO 417,791,904, clock 12,287,997. D Integer: 12,287,576
+    ∷ is (onHsi (pll Fractional (Hz 12_288_000) Unset)) 1 (inPll2 fractional) (18 ∷ 1_777_777 ∷ 235 ∷ 34 ∷ 66 ∷ 417_791_904 ∷ 12_287_997 ∷ [])
+    ∷ is (onHsi (pll Integer (Hz 12_288_000) Unset)) 1 (inPll2 pHertz) (12_287_576 ∷ [])
+    -- E* one output 419,999,999 medium, 420,000,000 wide, 560,000,000 is 9. F* 1,634,242: target 209,182,976, divider 128; 1,634,241 is 10
+    ∷ is (onHsi (pll Integer (Hz 419_999_999) Unset)) 1 (inPll2 vcosel) (1 ∷ [])
+    ∷ is (onHsi (pll Integer (Hz 420_000_000) Unset)) 1 (inPll2 vcosel) (0 ∷ [])
+    ∷ refused (onHsi (pll Integer (Hz 560_000_000) Unset)) 1 9
+    ∷ is (onHsi (pll Integer (Hz 1_634_242) Unset)) 1 (inPll2 target) (209_182_976 ∷ 128 ∷ [])
+    ∷ refused (onHsi (pll Integer (Hz 1_634_241) Unset)) 1 10
+    -- G P 200,000,000 with Q 1,562,500: Q divider 128; 1,562,499 is 8
+    ∷ is (onHsi (pll Integer (Hz 200_000_000) (Hz 1_562_500))) 1 (inPll2 qDivider) (128 ∷ [])
+    ∷ refused (onHsi (pll Integer (Hz 200_000_000) (Hz 1_562_499))) 1 8
+    -- H* odd forbidden: P 1,000,000 is 14; P 80,000,000 with Q 200,000,000 is 15
+    ∷ refused (onHsi (pll Integer (Hz 1_000_000) Unset)) 0 14
+    ∷ refused (onHsi (pll Integer (Hz 80_000_000) (Hz 200_000_000))) 0 15
+    -- I P 30,000,000, Q 100,000,000: P is 30,769,230; Fractional is 13
+    ∷ is (onHsi (pll Integer (Hz 30_000_000) (Hz 100_000_000))) 1 (inPll2 pHertz) (30_769_230 ∷ [])
+    ∷ refused (onHsi (pll Fractional (Hz 30_000_000) (Hz 100_000_000))) 1 13
+    -- J* system 250,000,000, AHB 50,000,000: 62,500,000. K* system 32,000,000, AHB 820,513: / 16; 820,512: / 64
+    ∷ is (system 250_000_000 (Hz 50_000_000)) 1 ahb (4 ∷ 62_500_000 ∷ [])
+    ∷ is (system 32_000_000 (Hz 820_513)) 1 ahb (16 ∷ 2_000_000 ∷ [])
+    ∷ is (system 32_000_000 (Hz 820_512)) 1 ahb (64 ∷ 500_000 ∷ [])
+    -- L* MCO1 from HSI 2,133,334: 15; 2,133,333 is 23
+    ∷ is (mco1From Mco1Source.Hsi (Hz 2_133_334)) 1 mco1 (15 ∷ [])
+    ∷ refused (mco1From Mco1Source.Hsi (Hz 2_133_333)) 1 23
+    -- M* HSE alone, hence AHB, Scale0 latency: 42,000,000: 0; 42,000,001: 1; 251,000,001: 7
+    ∷ is (onHse 42_000_000 none) 1 latency (0 ∷ [])
+    ∷ is (onHse 42_000_001 none) 1 latency (1 ∷ [])
+    ∷ is (onHse 251_000_001 none) 1 latency (7 ∷ [])
+    -- N HSE 100, AHB 1 is 19
+    ∷ refused (clocks (Hz 100) Unset (Hz 1) Unset) 1 19
+    -- O HSE 126,000,000: M 63 for PLL2 P 250,000,000; 126,000,001 is 11
+    ∷ is (onHse 126_000_000 (pll Integer (Hz 250_000_000) Unset)) 1 (inPll2 divisorM) (63 ∷ [])
+    ∷ refused (onHse 126_000_001 (pll Integer (Hz 250_000_000) Unset)) 1 11
     ∷ []
 
--- A, B, C, D, E, F, G, H, I, J, K, L, M, N, O, in this order
-abbrev stated : List (List ℕ)
-stated =
-    (0 ∷ 500000000 ∷ 8 ∷ 4000000 ∷ 125 ∷ 500000000 ∷ []) ∷ (2 ∷ 250000000 ∷ []) ∷ (250000000 ∷ 250000000 ∷ 1 ∷ 5 ∷ 2 ∷ 0 ∷ [])
-    ∷ (1 ∷ 250000000 ∷ 16 ∷ 2000000 ∷ 125 ∷ 250000000 ∷ []) ∷ (1 ∷ 250000000 ∷ [])
-    ∷ (1 ∷ 417792000 ∷ 18 ∷ 1777777 ∷ 235 ∷ 417791904 ∷ 66 ∷ []) ∷ (34 ∷ 12287997 ∷ [])
-    ∷ (34 ∷ 12287576 ∷ [])
-    ∷ (1 ∷ 419999999 ∷ 24 ∷ 1333333 ∷ 315 ∷ 419999895 ∷ []) ∷ (0 ∷ 420000000 ∷ 8 ∷ 4000000 ∷ 105 ∷ 420000000 ∷ []) ∷ (9 ∷ [])
-    ∷ (1 ∷ 209182976 ∷ 28 ∷ 1142857 ∷ 183 ∷ 209142831 ∷ []) ∷ (128 ∷ 1633928 ∷ []) ∷ (10 ∷ [])
-    ∷ (8 ∷ [])
-    ∷ (14 ∷ []) ∷ (15 ∷ [])
-    ∷ (13 ∷ 30769230 ∷ [])
-    ∷ (250000000 ∷ 62500000 ∷ 4 ∷ 1 ∷ 0 ∷ 0 ∷ [])
-    ∷ (32000000 ∷ 2000000 ∷ 16 ∷ 0 ∷ 0 ∷ 0 ∷ []) ∷ (32000000 ∷ 500000 ∷ 64 ∷ 0 ∷ 0 ∷ 0 ∷ [])
-    ∷ (32000000 ∷ 32000000 ∷ 1 ∷ 0 ∷ 0 ∷ 15 ∷ []) ∷ (23 ∷ [])
-    ∷ (42000000 ∷ 42000000 ∷ 1 ∷ 0 ∷ 0 ∷ 0 ∷ []) ∷ (42000001 ∷ 42000001 ∷ 1 ∷ 1 ∷ 0 ∷ 0 ∷ []) ∷ (251000001 ∷ 251000001 ∷ 1 ∷ 7 ∷ 3 ∷ 0 ∷ [])
-    ∷ (19 ∷ [])
-    ∷ (1 ∷ 250000000 ∷ 63 ∷ 2000000 ∷ 125 ∷ 250000000 ∷ [])
-    ∷ (11 ∷ [])
-    ∷ []
+-- ---- what the planner's call answers
+abbrev onTwo : Setting → List ℕ
+onTwo s = look (s .looks) (planOf (requestBytes false (s .request)) (chip 2 (s .odd)))
 
-pub bench : got ≡ stated
-unfolding planOf chosenPlan blankPlan pllsOf forSystemClock pllOf runs spanned dividedBy settled chosenM bestTo betterOf inRange shortfallOf targetOf topOf fracnOf vcoOf busesOf ahbOf apbOf ratioOf mcosOf mco1Input mco2Input mcoOf planWith flashOf atColumn timerOf peripheralOf lib.Ieee.span lib.Ieee.climb lib.Ieee.size lib.Ieee.odd lib.Ieee.units lib.Ieee.round lib.Ieee.neg lib.Ieee.sum lib.Ieee.add lib.Ieee.sub lib.Ieee.mul lib.Ieee.div lib.Ieee.lt lib.Ieee.eq lib.Ieee.le lib.Ieee.ofInt lib.Ieee.toUnsigned
+abbrev onThree : Setting → List ℕ
+onThree s = look (s .looks) (planOf (requestBytes true (s .request)) (chip 3 (s .odd)))
+
+pub bench : map onTwo settings ++ map onThree settings ≡ map (λ s. s .stated) settings ++ map (λ s. s .stated) settings
+unfolding byRules
 bench = refl

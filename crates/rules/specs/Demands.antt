@@ -1,4 +1,5 @@
 -- What is promised of every answer.
+pub mod Report
 pub mod Legal
 pub mod Agreement
 pub mod Readings

@@ -2,6 +2,8 @@
 pub mod Result
 pub mod Refusals
 pub mod Hertz
+pub mod Chip
+pub mod Bytes
 pub mod Request
 pub mod Target
 pub mod ChoiceOfM
@@ -13,3 +15,5 @@ pub mod Plan
 pub mod Fields
 pub mod Entries
 pub mod Bank
+pub mod Walk
+pub mod ResetReason

@@ -1,5 +1,6 @@
 -- The Rust, file by file, with its names.
 pub mod Run
+pub mod CoreClocks
 pub mod Pll
 pub mod Mco
 pub mod Rcc

@@ -220,3 +220,22 @@ pub enum Fracn {
     Value(u16),
     OutOfRange,
 }
+
+// What a walk shows: an entry to carry out, the end of the list, or the refusal that ended it.
+pub enum Shown {
+    Next(Entry),
+    Finished,
+    Stopped(Refusal),
+}
+
+// Why the chip was reset: reset_reason.rs, with its names.
+pub enum ResetReason {
+    PowerOnReset,
+    PinReset,
+    SystemReset,
+    WindowWatchdogReset,
+    IndependentWatchdogReset,
+    GenericWatchdogReset,
+    IllegalStopEntryReset,
+    Unknown(u32),
+}

@@ -1,32 +1,73 @@
 -- How a step of the rules and a run of the Rust agree, and that steps that agree may follow one another.
-use mathlib.Core.Path.{_≡_, refl}
-use mathlib.Core.List.{List}
+use mathlib.Core.Path.{_≡_, refl, ap, _∙_}
+use mathlib.Core.List.{List, [], _∷_, _++_, append-assoc}
+use Prim.Native.Nat.{ℕ, _-_}
+use mathlib.Core.Bool.{Bool}
 use Rattle.types.specs.declared.Entry.{Entry}
+use Rattle.types.specs.declared.Entry.the-variants.{Set}
 use Rattle.types.specs.declared.Refusal.{Refusal}
 use Rattle.rules.specs.Document01.Result as Rules
 use Rattle.rules.specs.Document01.Result.{Result, refused, ok}
-use Rattle.rules.proofs.Document01.Holds.{Holds}
-use Rattle.rules.specs.Rust.Run.{Outcome, panics, ends, Run, continue}
-use Rattle.rules.specs.Demands.Agreement.{Departs}
+use Rattle.rules.specs.Document01.Fields
+use Rattle.rules.specs.Document01.Fields.{ofPll}
+use Rattle.rules.proofs.Document01.Results.{Holds}
+use Rattle.rules.specs.Rust.Run.{Outcome, panics, ends, Run, continue, as-u8}
+use Rattle.rules.specs.Demands.Agreement.{Departure}
+use Rattle.rules.proofs.Agreement.Keeps.{Keeps, panicking, ending}
 
--- values agree as R says; a refusal meets a panic, or it is a departure and the Rust may do what it will
+-- values agree as R says; a refusal meets a panic, or the Rust ends all the same and D holds of its operations
+abbrev pub AgreeOr : {A B : Type 0} → (Refusal → List Entry → Type 0) → (A → List Entry → B → Type 0) → Result A → Outcome B → Type 0
+AgreeOr D R (refused n) panics = Unit {0}
+AgreeOr D R (refused n) (ends es b) = D n es
+AgreeOr D R (ok a) panics = ⊥
+AgreeOr D R (ok a) (ends es b) = R a es b
+
+-- every refusal meets a panic: the Rust does not end
+abbrev pub noEnd : Refusal → List Entry → Type 0
+noEnd n es = ⊥
+
 abbrev pub Agree : {A B : Type 0} → (A → List Entry → B → Type 0) → Result A → Outcome B → Type 0
-Agree R (refused n) panics = Unit {0}
-Agree R (refused n) (ends es b) = Departs n
-Agree R (ok a) panics = ⊥
-Agree R (ok a) (ends es b) = R a es b
+Agree R x o = AgreeOr noEnd R x o
 
--- a departure agrees with anything
-pub departed : {A B : Type 0} (R : A → List Entry → B → Type 0) (n : Refusal) → Departs n → (o : Outcome B) → Agree R (refused n) o
-departed R n d panics = tt
-departed R n d (ends es b) = d
+-- a refusal meets a panic or a departure
+abbrev pub AgreeOrDepart : {A B : Type 0} → (ℕ → Bool) → (A → List Entry → B → Type 0) → Result A → Outcome B → Type 0
+AgreeOrDepart odd R x o = AgreeOr (Departure odd) R x o
 
--- a step, then the next
-pub agree-then : {A B C D : Type 0} (R : A → List Entry → B → Type 0) (S : C → List Entry → D → Type 0) (x : Result A) (o : Outcome B) (k : A → Result C) (l : B → Run D) → Agree R x o → ((a : A) (es : List Entry) (b : B) → R a es b → Agree S (k a) (l b es)) → Agree S (Rules._>>=_ x k) (continue o l)
-agree-then R S (refused n) panics k l h f = tt
-agree-then R S (refused n) (ends es b) k l h f = departed S n h (l b es)
-agree-then R S (ok a) panics k l h f = absurd h
-agree-then R S (ok a) (ends es b) k l h f = f a es b h
+-- ---- a departure stays one, with one operation more
+pub departs-still : (odd : ℕ → Bool) (n : Refusal) (e : Entry) (es : List Entry) → Departure odd n es → Departure odd n (es ++ (e ∷ []))
+departs-still odd n e es d = record {
+  pll = d .pll;
+  divider = d .divider;
+  which = d .which;
+  before = d .before;
+  after = d .after ++ (e ∷ []);
+  written = ap (λ (l : List Entry). l ++ (e ∷ [])) (d .written) ∙ append-assoc (d .before) (Set (ofPll (d .pll) Fields.P) (as-u8 (d .divider - 1)) ∷ d .after) (e ∷ []);
+  forbidden = d .forbidden;
+}
+
+pub departed : {A B : Type 0} (odd : ℕ → Bool) (R : A → List Entry → B → Type 0) (n : Refusal) {o : Outcome B} → Keeps (Departure odd n) o → AgreeOrDepart odd R (refused n) o
+departed odd R n panicking = tt
+departed odd R n (ending d) = d
+
+-- ---- a step, then the next
+module _ {A B C D : Type 0} where
+  then-by : (E F : Refusal → List Entry → Type 0) (R : A → List Entry → B → Type 0) (S : C → List Entry → D → Type 0) (x : Result A) (o : Outcome B) (k : A → Result C) (l : B → Run D) → AgreeOr E R x o → ((n : Refusal) (es : List Entry) (b : B) → E n es → AgreeOr F S (refused n) (l b es)) → ((a : A) (es : List Entry) (b : B) → R a es b → AgreeOr F S (k a) (l b es)) → AgreeOr F S (Rules._>>=_ x k) (continue o l)
+  then-by E F R S (refused n) panics k l h g f = tt
+  then-by E F R S (refused n) (ends es b) k l h g f = g n es b h
+  then-by E F R S (ok a) panics k l h g f = absurd h
+  then-by E F R S (ok a) (ends es b) k l h g f = f a es b h
+
+  module _ (R : A → List Entry → B → Type 0) (S : C → List Entry → D → Type 0) (x : Result A) (o : Outcome B) (k : A → Result C) (l : B → Run D) where
+    pub agree-then : Agree R x o → ((a : A) (es : List Entry) (b : B) → R a es b → Agree S (k a) (l b es)) → Agree S (Rules._>>=_ x k) (continue o l)
+    agree-then h f = then-by noEnd noEnd R S x o k l h (λ n es b e. absurd e) f
+
+    -- the next may depart
+    pub agree-then-depart : (odd : ℕ → Bool) → Agree R x o → ((a : A) (es : List Entry) (b : B) → R a es b → AgreeOrDepart odd S (k a) (l b es)) → AgreeOrDepart odd S (Rules._>>=_ x k) (continue o l)
+    agree-then-depart odd h f = then-by noEnd (Departure odd) R S x o k l h (λ n es b e. absurd e) f
+
+    -- the first may depart too: what follows then takes no operation back
+    pub depart-then : (odd : ℕ → Bool) → AgreeOrDepart odd R x o → ((n : Refusal) (es : List Entry) (b : B) → Departure odd n es → Keeps (Departure odd n) (l b es)) → ((a : A) (es : List Entry) (b : B) → R a es b → AgreeOrDepart odd S (k a) (l b es)) → AgreeOrDepart odd S (Rules._>>=_ x k) (continue o l)
+    depart-then odd h g f = then-by (Departure odd) (Departure odd) R S x o k l h (λ n es b d. departed odd S n (g n es b d)) f
 
 -- where every continuation panics, so does the whole
 pub all-panic : {A B : Type 0} (o : Outcome A) (k : A → Run B) → ((a : A) (es : List Entry) → k a es ≡ panics) → continue o k ≡ panics
@@ -45,20 +86,27 @@ continue-same (ends es a) k l h = h a es
 -- a step whose value the rules do not use, then the next
 pub agree-next : {A B C D : Type 0} (R : A → List Entry → B → Type 0) (S : C → List Entry → D → Type 0) (x : Result A) (o : Outcome B) (r : Result C) (l : B → Run D) → Agree R x o → ((a : A) (es : List Entry) (b : B) → R a es b → Agree S r (l b es)) → Agree S (Rules._>>_ x r) (continue o l)
 agree-next R S (refused n) panics r l h f = tt
-agree-next R S (refused n) (ends es b) r l h f = departed S n h (l b es)
+agree-next R S (refused n) (ends es b) r l h f = absurd h
 agree-next R S (ok a) panics r l h f = absurd h
 agree-next R S (ok a) (ends es b) r l h f = f a es b h
 
 -- what agrees, and of which something holds
-pub agree-holds : {A B : Type 0} (R : A → List Entry → B → Type 0) (P : A → Type 0) (x : Result A) (o : Outcome B) → Agree R x o → Holds P x → Agree (λ a es b. R a es b × P a) x o
-agree-holds R P (refused n) panics h p = tt
-agree-holds R P (refused n) (ends es b) h p = h
-agree-holds R P (ok a) panics h p = h
-agree-holds R P (ok a) (ends es b) h p = (h, p)
+pub agree-holds : {A B : Type 0} (D : Refusal → List Entry → Type 0) (R : A → List Entry → B → Type 0) (P : A → Type 0) (x : Result A) (o : Outcome B) → AgreeOr D R x o → Holds P x → AgreeOr D (λ a es b. R a es b × P a) x o
+agree-holds D R P (refused n) panics h p = tt
+agree-holds D R P (refused n) (ends es b) h p = h
+agree-holds D R P (ok a) panics h p = h
+agree-holds D R P (ok a) (ends es b) h p = (h, p)
 
 -- what the Rust has is put into another form
-pub agree-map : {A B C : Type 0} (R : A → List Entry → B → Type 0) (S : A → List Entry → C → Type 0) (x : Result A) (o : Outcome B) (f : B → C) → Agree R x o → ((a : A) (es : List Entry) (b : B) → R a es b → S a es (f b)) → Agree S x (continue o (λ b es. ends es (f b)))
-agree-map R S (refused n) panics f h g = tt
-agree-map R S (refused n) (ends es b) f h g = h
-agree-map R S (ok a) panics f h g = h
-agree-map R S (ok a) (ends es b) f h g = g a es b h
+pub agree-map : {A B C : Type 0} (D : Refusal → List Entry → Type 0) (R : A → List Entry → B → Type 0) (S : A → List Entry → C → Type 0) (x : Result A) (o : Outcome B) (f : B → C) → AgreeOr D R x o → ((a : A) (es : List Entry) (b : B) → R a es b → S a es (f b)) → AgreeOr D S x (continue o (λ b es. ends es (f b)))
+agree-map D R S (refused n) panics f h g = tt
+agree-map D R S (refused n) (ends es b) f h g = h
+agree-map D R S (ok a) panics f h g = h
+agree-map D R S (ok a) (ends es b) f h g = g a es b h
+
+-- what agrees without a departure
+pub agree-always : {A B : Type 0} (D : Refusal → List Entry → Type 0) (R : A → List Entry → B → Type 0) (x : Result A) (o : Outcome B) → Agree R x o → AgreeOr D R x o
+agree-always D R (refused n) panics h = tt
+agree-always D R (refused n) (ends es b) h = absurd h
+agree-always D R (ok a) panics h = h
+agree-always D R (ok a) (ends es b) h = h

@@ -149,12 +149,12 @@ module _ (q : Request) (es : List Entry) where
 
   direct : needsPll1 q ≡ false → Goal
   unfolding forSystemClock sys-ck-setup sys-ck-from
-  direct f = rw (or-same (q .hse) 32000000, or-same (systemAsked q) (sourceOf q), f) (refl, rw f)
+  direct f = rw (or-same (q .hse) 32_000_000, or-same (systemAsked q) (sourceOf q), f) (refl, rw f)
 
   through-pll1 : needsPll1 q ≡ true → Goal
   unfolding forSystemClock sys-ck-setup sys-ck-from
   through-pll1 t =
-      rw (or-same (q .hse) 32000000, or-same (systemAsked q) (sourceOf q), t)
+      rw (or-same (q .hse) 32_000_000, or-same (systemAsked q) (sourceOf q), t)
       (agree-next (λ u es′ p. (es′ ≡ es) × (p ≡ Hz (systemOf q))) (KeptSys q es) (require (like (pll1Asked q .p) (systemOf q)) Pll1PUnlikeSystem) (pll1-p-for (systemOf q) (pll1Asked q .p) es) _ _ (p-agrees (systemOf q) (pll1Asked q .p) es)
       (λ u es1 p s. rw (s .0, s .1, t) (refl, refl)))
 

@@ -55,6 +55,6 @@ at-column s x =
     (λ (t : leb x 251 ≡ true). let l : x ≤ 251 = leb-true x 251 t in let e : min x 251 ≡ x = omega arith in rw e (inside s x (omega arith)))
     (λ (f : leb x 251 ≡ false). let l : 251 < x = leb-false x 251 f in let e : min x 251 ≡ 251 = omega arith in rw e (above x (omega arith) s ∙ inside s 251 (omega arith)))
 
-pub flash-same : (s : Scale) (ahb : ℕ) → match-vos s ((ahb - 1) / 1000000) ≡ statesOf (flashOf s ahb)
+pub flash-same : (s : Scale) (ahb : ℕ) → match-vos s ((ahb - 1) / 1_000_000) ≡ statesOf (flashOf s ahb)
 unfolding flashOf
-flash-same s ahb = at-column s ((ahb - 1) / 1000000)
+flash-same s ahb = at-column s ((ahb - 1) / 1_000_000)

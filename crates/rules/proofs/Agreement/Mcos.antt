@@ -25,7 +25,7 @@ use Rattle.rules.specs.Rust.Run.{unwrap}
 use Rattle.rules.specs.Rust.Mco.{Prescaled, calculate-prescaler}
 use Rattle.rules.specs.Rust.Rcc as F
 use Rattle.rules.specs.Rust.Rcc.{Config, mco1-in, mco2-in, mcos-calculate}
-use Rattle.rules.specs.Demands.Agreement.{pllClocks}
+use Rattle.rules.specs.Demands.Report.{pllClocks}
 use Rattle.laws.proofs.Tests.{and-left, and-right, by-test}
 use Rattle.rules.proofs.Agreement.Agree.{Agree, agree-then}
 use Rattle.rules.proofs.Document01.Span.{pos-of}

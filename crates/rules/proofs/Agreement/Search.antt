@@ -32,7 +32,7 @@ pub bestFrom : (source target low high : ℕ) → FoundM → (from count : ℕ) 
 bestFrom source target low high f from zero = f
 bestFrom source target low high f from (suc count) = bestFrom source target low high (betterOf source target low high f from) (suc from) count
 
-module _ (source target low high : ℕ) (small : target < 2147483648) (lows : 1 ≤ low) where
+module _ (source target low high : ℕ) (small : target < 2_147_483_648) (lows : 1 ≤ low) where
   abbrev short : ℕ → ℕ
   short = shortfallOf source target
 
@@ -48,9 +48,9 @@ module _ (source target low high : ℕ) (small : target < 2147483648) (lows : 1 
   key-ends m es h i =
       let r : 1 ≤ source / m = ref-pos m h i in
       let p : source / m * (target / (source / m)) ≤ target = mul-div-le target (source / m) in
-      let s : ltb (source / m * (target / (source / m))) 4294967296 ≡ true = lt-ltb (source / m * (target / (source / m))) 4294967296 (omega arith) in
+      let s : ltb (source / m * (target / (source / m))) 4_294_967_296 ≡ true = lt-ltb (source / m * (target / (source / m))) 4_294_967_296 (omega arith) in
       let e : toZ w32 target -ℤ toZ w32 (source / m * (target / (source / m))) ≡ pos (target - source / m * (target / (source / m))) = toZ-sub target (source / m * (target / (source / m))) p small in
-      let f : ltb (target - source / m * (target / (source / m))) 2147483648 ≡ true = lt-ltb (target - source / m * (target / (source / m))) 2147483648 (omega arith) in
+      let f : ltb (target - source / m * (target / (source / m))) 2_147_483_648 ≡ true = lt-ltb (target - source / m * (target / (source / m))) 2_147_483_648 (omega arith) in
       rw (nonzero m h, nonzero (source / m) r, s, e, f)
 
   -- ---- the fold of the Rust over so many m in range

@@ -1,14 +1,14 @@
 -- `write-pll` against document 01, One PLL, refusals 12 to 15, and the entries that set a PLL up.
 use mathlib.Core.Path.{_≡_, refl, sym, ap}
 use mathlib.Core.List.{List, [], _∷_, _++_, append-assoc, append-nil}
-use mathlib.Core.Logic.{inl, inr}
+use mathlib.Core.Logic.{_⊎_, inl, inr}
 use mathlib.Core.Bool.{Bool, true, false, _&&_, _||_}
-use Prim.Native.Nat.{ℕ, _-_, _*_, _/_, _%_, _≤_, _<_}
+use Prim.Native.Nat.{ℕ, _+_, _-_, _*_, _/_, _%_, _≤_, _<_}
 use native.Mathlib.Omega.{arith}
-use native.Mathlib.Nat.{mod-eq-of-lt, mul-div-le}
+use native.Mathlib.Nat.{mod-eq-of-lt, mul-div-le, div-div-eq-div-mul}
 use lib.Dec.{leb, eqb, leb·suc-suc}
 use lib.Ieee.{le}
-use borrow.Author.Tests.{leb-true, le-leb, lt-ltb}
+use borrow.Author.Tests.{leb-true, leb-false, le-leb, lt-ltb, eqb-false}
 use Rattle.types.specs.declared.Entry.{Entry}
 use Rattle.types.specs.declared.Entry.the-variants.{Set}
 use Rattle.types.specs.declared.Hertz.{Hertz}
@@ -18,30 +18,35 @@ use Rattle.types.specs.declared.Strategy.the-variants.{Integer, Fractional}
 use Rattle.types.specs.declared.PllRequest.{PllRequest}
 use Rattle.types.specs.declared.PllSettings.{PllSettings}
 use Rattle.types.specs.declared.Fraction.{Fraction}
+use Rattle.types.specs.declared.Refusal.{Refusal}
 use Rattle.types.specs.declared.Refusal.the-variants.{PDividerAbove128, PDividerOdd}
 use Rattle.ieee754.specs.Steps.{float, fracnFloat, fracnOf, vcoOf}
 use Rattle.rules.specs.Document01.Result as Rules
-use Rattle.rules.specs.Document01.Result.{ok}
+use Rattle.rules.specs.Document01.Result.{refused, ok}
 use Rattle.rules.specs.Document01.Hertz.{isSet, hertzOr, orElse}
 use Rattle.rules.specs.Document01.Fields
 use Rattle.rules.specs.Document01.Fields.{ofPll}
-use Rattle.rules.specs.Document01.OnePll.{wanted, Range, rgeOf, firstOf, fractionOf, vcoBy, outputOf, dividerP, allowedP, settingsOf, settled, clockOf}
+use Rattle.rules.specs.Document01.OnePll.{wanted, countedP, Range, rgeOf, firstOf, fractionOf, vcoBy, outputOf, dividerP, allowedP, settingsOf, settled, clockOf}
 use Rattle.rules.specs.Document01.Entries.{outputEntries, fractionEntries, settingEntries}
 use Rattle.rules.proofs.Legal.OnePll.{Divides, SomeDivider, divides-p}
-use Rattle.rules.specs.Rust.Run.{Outcome, ends, continue}
-use Rattle.rules.specs.Rust.Pll.{Some, PllClocks, rge, pll-divider-setup, calc-fracn, calc-vco-ck, or-output, vco-ck-of, write-pll}
-use Rattle.laws.proofs.Tests.{by-test, row}
-use Rattle.rules.proofs.Agreement.Agree.{Agree, agree-then, departed}
+use Rattle.rules.specs.Rust.Run.{Outcome, ends, continue, as-u8}
+use Rattle.rules.specs.Rust.CoreClocks.{PllClocks}
+use Rattle.rules.specs.Rust.Pll.{Some, rge, pll-divider-setup, calc-fracn, calc-vco-ck, or-output, vco-ck-of, write-pll}
+use Rattle.rules.specs.Manual.PllFields.{allowsP}
+use Rattle.rules.specs.Demands.Agreement.{Refused14, Refused15, Departure}
+use Rattle.laws.proofs.Tests.{by-test, never, row}
+use Rattle.rules.proofs.Agreement.Keeps.{Keeps, ending, follows, output, laws}
+use Rattle.rules.proofs.Agreement.Agree.{Agree, AgreeOrDepart, agree-then-depart, departs-still, departed}
 use Rattle.rules.proofs.Agreement.Numbers.{nonzero}
 use Rattle.rules.proofs.Agreement.Setup.{outputRust, setupOf}
 
 -- RGE: the match ranges against the rows
-pub rge-is : (ref : ℕ) → 1000000 ≤ ref → rge ref ≡ rgeOf ref
+pub rge-is : (ref : ℕ) → 1_000_000 ≤ ref → rge ref ≡ rgeOf ref
 rge-is ref h =
-    rw (leb·suc-suc ref 1999999, leb·suc-suc ref 3999999, leb·suc-suc ref 7999999)
-    (row (λ r. r) ref 1999999 0 _ _ 1000000 h
-    (λ g1. row (λ r. r) ref 3999999 1 _ _ 2000000 g1
-    (λ g2. row (λ r. r) ref 7999999 2 3 _ 4000000 g2 (λ g4. refl))))
+    rw (leb·suc-suc ref 1_999_999, leb·suc-suc ref 3_999_999, leb·suc-suc ref 7_999_999)
+    (row (λ r. r) ref 1_999_999 0 _ _ 1_000_000 h
+    (λ g1. row (λ r. r) ref 3_999_999 1 _ _ 2_000_000 g1
+    (λ g2. row (λ r. r) ref 7_999_999 2 3 _ 4_000_000 g2 (λ g4. refl))))
 
 -- ---- an output: its divider is from 1 to 128
 pub output-ends : (field enable vco target : ℕ) (h : Hertz) (es : List Entry) → Divides target h → pll-divider-setup field enable vco (outputRust target h) es ≡ ends (es ++ outputEntries field enable (outputOf target vco h)) (clockOf (outputOf target vco h))
@@ -58,9 +63,9 @@ abbrev VcoSame : ℕ → ℕ → ℕ → List Entry → Fraction → List Entry 
 VcoSame k ref n es f es′ v = (es′ ≡ es ++ fractionEntries k f) × (v ≡ vcoBy f ref n)
 
 module _ (k ref n d o : ℕ) (es : List Entry) where
-  whole-agrees : ref * n < 4294967296 → Agree (VcoSame k ref n es) (fractionOf Integer ref n d o) (vco-ck-of k Integer ref n (Some o d) es)
+  whole-agrees : ref * n < 4_294_967_296 → Agree (VcoSame k ref n es) (fractionOf Integer ref n d o) (vco-ck-of k Integer ref n (Some o d) es)
   unfolding vco-ck-of
-  whole-agrees h = rw (lt-ltb (ref * n) 4294967296 h) (sym (append-nil es), refl)
+  whole-agrees h = rw (lt-ltb (ref * n) 4_294_967_296 h) (sym (append-nil es), refl)
 
   part-agrees : Agree (VcoSame k ref n es) (fractionOf Fractional ref n d o) (vco-ck-of k Fractional ref n (Some o d) es)
   unfolding vco-ck-of calc-fracn calc-vco-ck fracnOf vcoOf
@@ -72,7 +77,7 @@ module _ (k ref n d o : ℕ) (es : List Entry) where
       (λ (f : le (fracnFloat (float ref) (float n) (float d) (float o)) (float 8191) ≡ false). rw (s, f) tt))
       (λ (f : le (float 0) (fracnFloat (float ref) (float n) (float d) (float o)) ≡ false). rw f tt)
 
-  pub vco-agrees : (s : Strategy) → ref * n < 4294967296 → Agree (VcoSame k ref n es) (fractionOf s ref n d o) (vco-ck-of k s ref n (Some o d) es)
+  pub vco-agrees : (s : Strategy) → ref * n < 4_294_967_296 → Agree (VcoSame k ref n es) (fractionOf s ref n d o) (vco-ck-of k s ref n (Some o d) es)
   vco-agrees Integer h = whole-agrees h
   vco-agrees Fractional h = part-agrees
 
@@ -83,6 +88,63 @@ first-is target Unset (Hz q) r w = refl
 first-is target Unset Unset (Hz r) w = refl
 first-is target Unset Unset Unset w = absurd (let z : _≡_ {A = ℕ} 0 1 = cc in omega arith)
 
+-- ---- refusals 14 and 15: a divider that is forbidden
+-- the divider of P as it counts is at most 128
+abbrev pub CountedDivides : Bool → ℕ → Hertz → Type 0
+CountedDivides odd target Unset = Unit {0}
+CountedDivides odd target (Hz h) = target / countedP odd h ≤ 128
+
+-- P's divider is one that is refused, and the manual forbids what is written for it
+abbrev Wrong : Bool → Refusal → ℕ → Hertz → Type 0
+Wrong odd n target Unset = ⊥
+Wrong odd n target (Hz h) = (1 ≤ target / h) × (Refused14 n (target / h) ⊎ Refused15 n (target / h)) × (allowsP odd (as-u8 (target / h - 1)) ≡ false)
+
+-- 15: the field holds the divider less 1
+odd-forbidden : (d : ℕ) → 1 ≤ d → d ≤ 128 → eqb (d % 2) 0 ≡ false → allowsP false (as-u8 (d - 1)) ≡ false
+odd-forbidden d one most f =
+    let u : (d - 1) % 256 ≡ d - 1 = mod-eq-of-lt (omega arith) in
+    let e : d - 1 + 1 ≡ d = omega arith in
+    rw (u, e, le-leb (d - 1) 127 (omega arith), f)
+
+odd-wrong : (odd : Bool) (target : ℕ) (h : Hertz) → SomeDivider target h → leb (dividerP target h) 128 ≡ true → odd || eqb (dividerP target h % 2) 0 ≡ false → Wrong odd PDividerOdd target h
+odd-wrong true target h d t s = absurd (never s)
+odd-wrong false target Unset d t s = never s
+odd-wrong false target (Hz h) d t s =
+    let most : target / h ≤ 128 = leb-true (target / h) 128 t in
+    (d, inr (refl, most, (let e = eqb-false (target / h % 2) 0 s in omega arith)), odd-forbidden (target / h) d most s)
+
+-- 14: the field holds 128 or more, or 0, for a divider of 1, where 256 is cut to 8 bits
+above-forbidden : (d : ℕ) → 128 < d → d ≤ 257 → allowsP false (as-u8 (d - 1)) ≡ false
+above-forbidden d low most =
+    by-test (leb ((d - 1) % 256) 127)
+    (λ (t : leb ((d - 1) % 256) 127 ≡ true). let z : (d - 1) % 256 ≡ 0 = let l = leb-true ((d - 1) % 256) 127 t in omega arith in rw z)
+    (λ (f : leb ((d - 1) % 256) 127 ≡ false). rw f)
+
+above-wrong : (odd : Bool) (target : ℕ) (h : Hertz) → SomeDivider target h → CountedDivides odd target h → leb (dividerP target h) 128 ≡ false → Wrong odd PDividerAbove128 target h
+above-wrong odd target Unset d c t = never t
+above-wrong true target (Hz h) d c t = absurd (let l = leb-false (target / h) 128 t in omega arith)
+above-wrong false target (Hz h) d c t =
+    let low : 128 < target / h = leb-false (target / h) 128 t in
+    let half : target / h / 2 ≤ 128 = rw div-div-eq-div-mul c in
+    let most : target / h ≤ 257 = omega arith in
+    (d, inl (refl, low, most), above-forbidden (target / h) low most)
+
+-- it is written, and that is a departure
+writes-wrong : (odd : ℕ → Bool) (k vco target : ℕ) (h : Hertz) (n : Refusal) (es : List Entry) → Wrong (odd k) n target h → Keeps (Departure odd n) (pll-divider-setup (ofPll k Fields.P) (ofPll k Fields.PEN) vco (outputRust target h) es)
+unfolding pll-divider-setup
+writes-wrong odd k vco target Unset n es w = absurd w
+writes-wrong odd k vco target (Hz h) n es w =
+    rw (le-leb 1 (target / h) (w .0), nonzero (target / h) (w .0))
+    (ending (record {
+      pll = k;
+      divider = target / h;
+      which = w .1;
+      before = es;
+      after = Set (ofPll k Fields.PEN) 1 ∷ [];
+      written = append-assoc es (Set (ofPll k Fields.P) (as-u8 (target / h - 1)) ∷ []) (Set (ofPll k Fields.PEN) 1 ∷ []);
+      forbidden = w .2;
+    }))
+
 -- ---- refusals 12 to 15, and all that is written
 abbrev pub settingClocks : PllSettings → PllClocks
 settingClocks s = record { p-ck = clockOf (s .p); q-ck = clockOf (s .q); r-ck = clockOf (s .r) }
@@ -90,7 +152,7 @@ settingClocks s = record { p-ck = clockOf (s .p); q-ck = clockOf (s .q); r-ck = 
 abbrev pub SameSettings : ℕ → List Entry → PllSettings → List Entry → PllClocks → Type 0
 SameSettings k es s es′ c = (es′ ≡ es ++ settingEntries k s) × (c ≡ settingClocks s)
 
-module _ (k source : ℕ) (a : PllRequest) (odd : Bool) (g : Range) (target m : ℕ) (es0 : List Entry) (w : wanted a ≡ true) (small : target < 2147483648) (m63 : m ≤ 63) (ref1 : 1000000 ≤ source / m) (dp : SomeDivider target (a .p)) (dq : Divides target (a .q)) (dr : Divides target (a .r)) where
+module _ (k source : ℕ) (a : PllRequest) (odd : ℕ → Bool) (g : Range) (target m : ℕ) (es0 : List Entry) (w : wanted a ≡ true) (small : target < 2_147_483_648) (m63 : m ≤ 63) (ref1 : 1_000_000 ≤ source / m) (dp : SomeDivider target (a .p)) (cp : CountedDivides (odd k) target (a .p)) (dq : Divides target (a .q)) (dr : Divides target (a .r)) where
   abbrev ref : ℕ
   ref = source / m
 
@@ -106,7 +168,7 @@ module _ (k source : ℕ) (a : PllRequest) (odd : Bool) (g : Range) (target m : 
   es4 = (es2 ++ (Set (ofPll k Fields.M) m ∷ [])) ++ (Set (ofPll k Fields.N) (n - 1) ∷ [])
 
   abbrev Goal : Type 0
-  Goal = Agree (SameSettings k es0) (settled odd a g target m ref n) (write-pll k (a .strategy) (setupOf source a g target m) es2)
+  Goal = AgreeOrDepart odd (SameSettings k es0) (settled (odd k) a g target m ref n) (write-pll k (a .strategy) (setupOf source a g target m) es2)
 
   n-outside : leb 4 n && leb n 512 ≡ false → Goal
   unfolding settled write-pll
@@ -137,14 +199,19 @@ module _ (k source : ℕ) (a : PllRequest) (odd : Bool) (g : Range) (target m : 
       (ap (λ (l : List Entry). ends l (settingClocks (settings f))) (simp append-assoc))
 
   -- 14 and 15 are departures
-  allowed-agrees : (f : Fraction) → Agree (SameSettings k es0) (Rules._>>_ (allowedP odd (dividerP target (a .p))) (ok (settings f))) (outputs f)
+  departs : (f : Fraction) (x : Refusal) → Wrong (odd k) x target (a .p) → AgreeOrDepart odd (SameSettings k es0) (refused x) (outputs f)
+  departs f x w =
+      departed odd (SameSettings k es0) x
+      (follows (Departure odd x) (departs-still odd x) _ (writes-wrong odd k (vcoBy f ref n) target (a .p) x (es4 ++ fractionEntries k f) w) (λ p es d. search (laws, output, departs-still odd x)))
+
+  allowed-agrees : (f : Fraction) → AgreeOrDepart odd (SameSettings k es0) (Rules._>>_ (allowedP (odd k) (dividerP target (a .p))) (ok (settings f))) (outputs f)
   allowed-agrees f =
       by-test (leb (dividerP target (a .p)) 128)
       (λ (t : leb (dividerP target (a .p)) 128 ≡ true).
-      by-test (odd || eqb (dividerP target (a .p) % 2) 0)
-      (λ (s : odd || eqb (dividerP target (a .p) % 2) 0 ≡ true). rw (t, s, written f (divides-p target (a .p) dp t)) (refl, refl))
-      (λ (s : odd || eqb (dividerP target (a .p) % 2) 0 ≡ false). rw (t, s) (departed (SameSettings k es0) PDividerOdd (inr refl) (outputs f))))
-      (λ (t : leb (dividerP target (a .p)) 128 ≡ false). rw t (departed (SameSettings k es0) PDividerAbove128 (inl refl) (outputs f)))
+      by-test (odd k || eqb (dividerP target (a .p) % 2) 0)
+      (λ (s : odd k || eqb (dividerP target (a .p) % 2) 0 ≡ true). rw (t, s, written f (divides-p target (a .p) dp t)) (refl, refl))
+      (λ (s : odd k || eqb (dividerP target (a .p) % 2) 0 ≡ false). rw (t, s) (departs f PDividerOdd (odd-wrong (odd k) target (a .p) dp t s))))
+      (λ (t : leb (dividerP target (a .p)) 128 ≡ false). rw t (departs f PDividerAbove128 (above-wrong (odd k) target (a .p) dp cp t)))
 
   n-inside : leb 4 n && leb n 512 ≡ true → Goal
   unfolding settled write-pll
@@ -154,10 +221,10 @@ module _ (k source : ℕ) (a : PllRequest) (odd : Bool) (g : Range) (target m : 
       let e : leb n 512 ≡ true = rw s at t in
       let l : n ≤ 512 = leb-true n 512 e in
       let um : m % 256 ≡ m = mod-eq-of-lt (omega arith) in
-      let un : (n - 1) % 65536 ≡ n - 1 = mod-eq-of-lt (omega arith) in
-      let fits : ref * n < 4294967296 = let x : ref * n ≤ target = mul-div-le target ref in omega arith in
+      let un : (n - 1) % 65_536 ≡ n - 1 = mod-eq-of-lt (omega arith) in
+      let fits : ref * n < 4_294_967_296 = let x : ref * n ≤ target = mul-div-le target ref in omega arith in
       rw (nonzero ref (omega arith), s, e, um, un, first-is target (a .p) (a .q) (a .r) w)
-      (agree-then (VcoSame k ref n es4) (SameSettings k es0) (fractionOf (a .strategy) ref n (target / firstOf a) (firstOf a)) (vco-ck-of k (a .strategy) ref n (Some (firstOf a) (target / firstOf a)) es4) _ _ (vco-agrees k ref n (target / firstOf a) (firstOf a) es4 (a .strategy) fits)
+      (agree-then-depart (VcoSame k ref n es4) (SameSettings k es0) (fractionOf (a .strategy) ref n (target / firstOf a) (firstOf a)) (vco-ck-of k (a .strategy) ref n (Some (firstOf a) (target / firstOf a)) es4) _ _ odd (vco-agrees k ref n (target / firstOf a) (firstOf a) es4 (a .strategy) fits)
       (λ f es1 v h. rw (h .0, h .1) (allowed-agrees f))))
       (λ (s : leb 4 n ≡ false). absurd (let e : false ≡ true = rw s at t in let z : _≡_ {A = ℕ} 0 1 = cc in omega arith))
 

@@ -38,11 +38,11 @@ rangeRust g = record { output-start = g .start; output-end = g .end; input-start
 contains-is : (start end n : ℕ) → contains start end n ≡ leb start n && leb n end
 contains-is start end n = by-test (leb start n) (λ (t : leb start n ≡ true). rw t) (λ (f : leb start n ≡ false). rw f)
 
-range-found : (most : ℕ) (es : List Entry) → ltb most 560000000 ≡ true → find-range most es ≡ ends es (rangeRust (rangeOf most))
-range-found most es t = by-test (ltb most 420000000) (λ (s : ltb most 420000000 ≡ true). rw s) (λ (f : ltb most 420000000 ≡ false). rw (f, t))
+range-found : (most : ℕ) (es : List Entry) → ltb most 560_000_000 ≡ true → find-range most es ≡ ends es (rangeRust (rangeOf most))
+range-found most es t = by-test (ltb most 420_000_000) (λ (s : ltb most 420_000_000 ≡ true). rw s) (λ (f : ltb most 420_000_000 ≡ false). rw (f, t))
 
-range-panics : (most : ℕ) (es : List Entry) → ltb most 560000000 ≡ false → find-range most es ≡ panics
-range-panics most es f = let l : 560000000 ≤ most = ltb-false most 560000000 f in rw (le-ltb most 420000000 (omega arith), f)
+range-panics : (most : ℕ) (es : List Entry) → ltb most 560_000_000 ≡ false → find-range most es ≡ panics
+range-panics most es f = let l : 560_000_000 ≤ most = ltb-false most 560_000_000 f in rw (le-ltb most 420_000_000 (omega arith), f)
 
 -- ---- an output's divider
 abbrev pub outputRust : ℕ → Hertz → Pll.PllOutput
@@ -152,18 +152,18 @@ module _ (source : ℕ) (a : PllRequest) (odd : Bool) (es : List Entry) (some : 
   far-panics f = vco-panics (rw f)
 
   -- 9
-  pub high-panics : leb (most / 128) low ≡ true → ltb most 560000000 ≡ false → vco ≡ panics
+  pub high-panics : leb (most / 128) low ≡ true → ltb most 560_000_000 ≡ false → vco ≡ panics
   unfolding range-setup
   high-panics t f = vco-panics (rw (t, range-panics most es f))
 
-  module _ (t8 : leb (most / 128) low ≡ true) (t9 : ltb most 560000000 ≡ true) where
+  module _ (t8 : leb (most / 128) low ≡ true) (t9 : ltb most 560_000_000 ≡ true) where
     pub good : Good g most
     good = range-good most t9
 
     most-pos : 1 ≤ most
     most-pos = let x = spanned-is .above in let y = spanned-is .order in omega arith
 
-    pub small : target < 2147483648
+    pub small : target < 2_147_483_648
     small = let x : target ≤ g .end = target-le low most (g .end) in let y = good .to in omega arith
 
     to-divider : ranged ≡ divider-setup source (pll-config a) (rangeRust g) target es
@@ -194,5 +194,5 @@ module _ (source : ℕ) (a : PllRequest) (odd : Bool) (es : List Entry) (some : 
 
       pub vco-ends : vco ≡ setupEnds source a g target es choice
       vco-ends =
-          let f : Fits odd (a .p) = fits-below odd (a .p) low most (spanned-is .inP) (let x : most < 560000000 = ltb-true most 560000000 t9 in omega arith) in
+          let f : Fits odd (a .p) = fits-below odd (a .p) low most (spanned-is .inP) (let x : most < 560_000_000 = ltb-true most 560_000_000 t9 in omega arith) in
           collected f ∙ to-divider ∙ divider-ends choice refl

@@ -39,13 +39,13 @@ folded odd (Hz p) (Hz q) (Hz r) a b c =
 abbrev pub Fits : Bool → Hertz → Type 0
 Fits true h = Unit {0}
 Fits false Unset = Unit {0}
-Fits false (Hz h) = h * 2 < 4294967296
+Fits false (Hz h) = h * 2 < 4_294_967_296
 
 pub mapped-is : (odd : Bool) (h : Hertz) (es : List Entry) → Fits odd h → mapped h odd es ≡ ends es (counted (countedP odd) h)
 mapped-is true Unset es f = refl
 mapped-is false Unset es f = refl
 mapped-is true (Hz h) es f = refl
-mapped-is false (Hz h) es f = rw (lt-ltb (h * 2) 4294967296 f)
+mapped-is false (Hz h) es f = rw (lt-ltb (h * 2) 4_294_967_296 f)
 
 pub mapped-whole : (h : Hertz) (es : List Entry) → mapped h true es ≡ ends es (counted (λ h. h) h)
 mapped-whole Unset es = refl
@@ -54,10 +54,10 @@ mapped-whole (Hz h) es = refl
 pub fits-or-panics : (odd : Bool) (h : Hertz) (es : List Entry) → Fits odd h ⊎ (mapped h odd es ≡ panics)
 fits-or-panics true h es = inl tt
 fits-or-panics false Unset es = inl tt
-fits-or-panics false (Hz h) es = by-test (ltb (h * 2) 4294967296) (λ t. inl (ltb-true (h * 2) 4294967296 t)) (λ (f : ltb (h * 2) 4294967296 ≡ false). inr (rw f))
+fits-or-panics false (Hz h) es = by-test (ltb (h * 2) 4_294_967_296) (λ t. inl (ltb-true (h * 2) 4_294_967_296 t)) (λ (f : ltb (h * 2) 4_294_967_296 ≡ false). inr (rw f))
 
 -- a P whose count is below a bound fits
-pub fits-below : (odd : Bool) (h : Hertz) (low high : ℕ) → Inside (countedP odd) low high h → high < 4294967296 → Fits odd h
+pub fits-below : (odd : Bool) (h : Hertz) (low high : ℕ) → Inside (countedP odd) low high h → high < 4_294_967_296 → Fits odd h
 fits-below true h low high i l = tt
 fits-below false Unset low high i l = tt
 fits-below false (Hz h) low high i l = omega arith

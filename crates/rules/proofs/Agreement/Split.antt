@@ -1,14 +1,17 @@
 -- `frozen` in two parts: up to the PLLs, and the rest.
 use mathlib.Core.Path.{_≡_, sym, _∙_}
-use mathlib.Core.List.{[]}
+use mathlib.Core.List.{List, [], _∷_, _++_}
 use Prim.Native.Nat.{ℕ}
 use lib.Dec.{eqb}
+use Rattle.types.specs.declared.Entry.{Entry}
 use Rattle.types.specs.declared.Entry.the-variants.{Set, Wait}
 use Rattle.types.specs.declared.Request.{Request}
 use Rattle.types.specs.declared.ChipState.{ChipState}
 use Rattle.rules.specs.Document01.Fields
 use Rattle.rules.specs.Rust.Run.{ends, Run, continue, _>>=_, _>>_, return, assert, modify, poll}
-use Rattle.rules.specs.Rust.Rcc.{CoreClocks, DefaultX2, setters, mco1-setup, mco2-setup, sys-ck-setup, plls-setup, sys-ck-of, match-per-ck, buses-calculate, mcos-calculate, start-clocks, start-plls, switch-clocks, clocks-of, freeze, frozen}
+use Rattle.rules.specs.Rust.CoreClocks.{CoreClocks}
+use Rattle.rules.specs.Rust.Rcc.{DefaultX2, setters, mco1-setup, mco2-setup, sys-ck-setup, plls-setup, sys-ck-of, match-per-ck, buses-calculate, mcos-calculate, start-clocks, start-plls, switch-clocks, clocks-of, freeze, frozen}
+use Rattle.rules.proofs.Agreement.Keeps.{Keeps, laws, buses, mcos, clocks, plls, switches}
 use Rattle.rules.proofs.Agreement.Agree.{continue-twice, continue-same}
 use Rattle.rules.proofs.Agreement.Plls.{Ready, afterSys, afterMco2, afterMco1, afterSetters, ready}
 
@@ -31,6 +34,10 @@ rest chip r = do
   assert (chip .hsion)
   assert (eqb (chip .hsidiv) 2)
   afterAsserts chip r sys-ck
+
+-- it takes no operation back
+pub rest-keeps : (P : List Entry → Type 0) → ((e : Entry) (es : List Entry) → P es → P (es ++ (e ∷ []))) → (chip : ChipState) (r : Ready) (es : List Entry) → P es → Keeps P (rest chip r es)
+rest-keeps P more chip r es p = search (laws, buses, mcos, clocks, plls, switches) depth 20
 
 pub frozen-parts : (q : Request) (c : ChipState) → frozen q c ≡ continue (ready q c) (rest c)
 unfolding frozen freeze

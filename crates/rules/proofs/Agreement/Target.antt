@@ -18,7 +18,7 @@ use Rattle.rules.proofs.Agreement.Numbers.{nonzero, ceil-is}
 use Rattle.rules.proofs.Agreement.Buses.{ratio-pos}
 use Rattle.rules.proofs.Agreement.Search.{endsWith, min-by-is, all-in, same-found}
 
-pub search-is : (source target : ℕ) (g : VcoRange) (es : List Entry) → target < 2147483648 → 1 ≤ g .input-start → 1 ≤ g .input-end → 1 ≤ source → search-m source g target es ≡ endsWith es (chosenM source target (g .input-start) (g .input-end))
+pub search-is : (source target : ℕ) (g : VcoRange) (es : List Entry) → target < 2_147_483_648 → 1 ≤ g .input-start → 1 ≤ g .input-end → 1 ≤ source → search-m source g target es ≡ endsWith es (chosenM source target (g .input-start) (g .input-end))
 unfolding search-m chosenM
 search-is source target g es small lows highs some =
     let low : ℕ = g .input-start in
@@ -29,7 +29,7 @@ search-is source target g es small lows highs some =
     (min-by-is source target low high small lows (ratioOf source high) _ es p (all-in source target low high small lows highs) ∙ ap (endsWith es) (same-found source target low high small lows highs (ratioOf source high - 1) e))
 
 -- the target, where min and max are not 0
-module _ (least most : ℕ) (g : VcoRange) (es : List Entry) (a : 1 ≤ least) (b : 1 ≤ most) (fits : g .output-end < 4294967296) where
+module _ (least most : ℕ) (g : VcoRange) (es : List Entry) (a : 1 ≤ least) (b : 1 ≤ most) (fits : g .output-end < 4_294_967_296) where
   abbrev top : ℕ
   top = most * (g .output-end / most)
 
@@ -45,6 +45,6 @@ module _ (least most : ℕ) (g : VcoRange) (es : List Entry) (a : 1 ≤ least) (
   unfolding target-setup targetOf topOf
   target-is =
       let p : top ≤ g .output-end = mul-div-le (g .output-end) most in
-      let f : ltb top 4294967296 ≡ true = lt-ltb top 4294967296 (omega arith) in
+      let f : ltb top 4_294_967_296 ≡ true = lt-ltb top 4_294_967_296 (omega arith) in
       rw (nonzero most b, f, nonzero least a)
       (by-test (ltb 128 (top / least)) (λ (t : ltb 128 (top / least) ≡ true). rw (cut t, t)) (λ (n : ltb 128 (top / least) ≡ false). rw n))

@@ -1,6 +1,7 @@
 -- The rules and Rcc::freeze agree.
 use mathlib.Core.Path.{_≡_, refl, ap, _∙_, subst}
 use mathlib.Core.List.{List, [], _∷_, _++_, append-assoc}
+use mathlib.Core.Logic.{⊎-elim}
 use mathlib.Core.Bool.{Bool, true, false}
 use Prim.Native.Nat.{ℕ, _≤_}
 use native.Mathlib.Omega.{arith}
@@ -14,6 +15,7 @@ use Rattle.types.specs.declared.PllRequest.{PllRequest}
 use Rattle.types.specs.declared.Request.{Request}
 use Rattle.types.specs.declared.ChipState.{ChipState}
 use Rattle.types.specs.declared.Pll.the-variants.{Idle}
+use Rattle.types.specs.declared.Refusal.{Refusal}
 use Rattle.types.specs.declared.Refusal.the-variants.{HsiOff, HsidivNot2}
 use Rattle.types.specs.declared.Plan.{Plan}
 use Rattle.rules.specs.Document01.Result as Rules
@@ -25,19 +27,21 @@ use Rattle.rules.specs.Document01.OnePll.{pClock}
 use Rattle.rules.specs.Document01.Buses.{peripheralOf}
 use Rattle.rules.specs.Document01.Flash.{flashOf}
 use Rattle.rules.specs.Document01.Plan as R
-use Rattle.rules.specs.Document01.Plan.{systemFrom, pllsOf, hsiReady, busesOf, mcosOf, planWith, chosenPlan, answered, planOf, swOf}
+use Rattle.rules.specs.Document01.Plan.{systemFrom, pllsOf, hsiReady, busesOf, mcosOf, planWith, chosenPlan, answered, answerTo, swOf}
 use Rattle.rules.specs.Document01.Entries.{setupEntries, clockEntries, hseEntries, busEntries, planEntries, entriesOf}
 use Rattle.rules.specs.Rust.Run.{Outcome, panics, ends, Run, continue, assert, unwrap, is-some}
 use Rattle.rules.specs.Rust.Rcc as F
-use Rattle.rules.specs.Rust.Rcc.{CoreClocks, DefaultX2, sys-ck-of, match-per-ck, swbits, buses-calculate, mcos-calculate, start-clocks, start-plls, switch-clocks, clocks-of, frozen}
-use Rattle.rules.specs.Demands.Agreement.{reported, Departs, Agreement, Buildable}
+use Rattle.rules.specs.Rust.CoreClocks.{CoreClocks}
+use Rattle.rules.specs.Rust.Rcc.{DefaultX2, sys-ck-of, match-per-ck, swbits, buses-calculate, mcos-calculate, start-clocks, start-plls, switch-clocks, clocks-of, frozen}
+use Rattle.rules.specs.Demands.Report.{reported}
+use Rattle.rules.specs.Demands.Agreement.{oddP, Departure, Agreement}
 use Rattle.laws.proofs.Tests.{by-test}
-use Rattle.rules.proofs.Agreement.Agree.{Agree, agree-then}
+use Rattle.rules.proofs.Agreement.Agree.{Agree, AgreeOrDepart, departs-still, agree-then, depart-then, agree-always}
 use Rattle.rules.proofs.Agreement.Config.{configAfter, sysCk}
 use Rattle.rules.proofs.Agreement.Buses.{SameBuses, buses-agree}
 use Rattle.rules.proofs.Agreement.Mcos.{clocksOf, mcosRust, KeptMcos, mcos-agree}
 use Rattle.rules.proofs.Agreement.Plls.{Ready, Stated, SameReady, ready, plls-ready}
-use Rattle.rules.proofs.Agreement.Split.{afterAsserts, rest, frozen-parts}
+use Rattle.rules.proofs.Agreement.Split.{afterAsserts, rest, rest-keeps, frozen-parts}
 use Rattle.rules.proofs.Agreement.Writes.{clockTail, clocks-end, pllTail, plls-end}
 
 -- ---- the system clock
@@ -55,18 +59,18 @@ system-ends q asked1 l es h =
 per-sel : (p h : Hertz) → match-per-ck p h .ckpersel ≡ peripheralOf p h .sel
 unfolding match-per-ck peripheralOf
 per-sel Unset h = refl
-per-sel (Hz p) Unset = by-test (eqb p 4000000) (λ (t : eqb p 4000000 ≡ true). rw t) (λ (f : eqb p 4000000 ≡ false). rw f)
+per-sel (Hz p) Unset = by-test (eqb p 4_000_000) (λ (t : eqb p 4_000_000 ≡ true). rw t) (λ (f : eqb p 4_000_000 ≡ false). rw f)
 per-sel (Hz p) (Hz h) =
     by-test (eqb p h) (λ (t : eqb p h ≡ true). rw t)
-    (λ (g : eqb p h ≡ false). by-test (eqb p 4000000) (λ (t : eqb p 4000000 ≡ true). rw (g, t)) (λ (f : eqb p 4000000 ≡ false). rw (g, f)))
+    (λ (g : eqb p h ≡ false). by-test (eqb p 4_000_000) (λ (t : eqb p 4_000_000 ≡ true). rw (g, t)) (λ (f : eqb p 4_000_000 ≡ false). rw (g, f)))
 
 per-clock : (p h : Hertz) → match-per-ck p h .per-ck ≡ peripheralOf p h .clock
 unfolding match-per-ck peripheralOf
 per-clock Unset h = refl
-per-clock (Hz p) Unset = by-test (eqb p 4000000) (λ (t : eqb p 4000000 ≡ true). rw t) (λ (f : eqb p 4000000 ≡ false). rw f)
+per-clock (Hz p) Unset = by-test (eqb p 4_000_000) (λ (t : eqb p 4_000_000 ≡ true). rw t) (λ (f : eqb p 4_000_000 ≡ false). rw f)
 per-clock (Hz p) (Hz h) =
     by-test (eqb p h) (λ (t : eqb p h ≡ true). rw t)
-    (λ (g : eqb p h ≡ false). by-test (eqb p 4000000) (λ (t : eqb p 4000000 ≡ true). rw (g, t)) (λ (f : eqb p 4000000 ≡ false). rw (g, f)))
+    (λ (g : eqb p h ≡ false). by-test (eqb p 4_000_000) (λ (t : eqb p 4_000_000 ≡ true). rw (g, t)) (λ (f : eqb p 4_000_000 ≡ false). rw (g, f)))
 
 sw-is : (n : Bool) (h : Hertz) → swbits n (is-some h) ≡ swOf n h
 sw-is true h = refl
@@ -85,7 +89,7 @@ module _ (q : Request) (c : ChipState) (asked1 : PllRequest) (l : R.Plls) (b : R
       (ap (λ (x : List Entry). ends x tt) (simp append-assoc))
 
   clocks-same : clocks-of (systemFrom q l) (configAfter q asked1) (clocksOf l) rb (mcosRust m) DefaultX2 ≡ reported plan
-  unfolding clocks-of reported planWith
+  unfolding clocks-of planWith
   clocks-same =
       rw (same .hclk, same .pclk1 .pre, same .pclk2 .pre, same .pclk3 .pre, same .pclk1 .clock, same .pclk2 .clock, same .pclk3 .clock, same .pclk1 .timer, same .pclk2 .timer, per-clock (q .peripheral) (q .hse))
 
@@ -123,9 +127,6 @@ module _ (q : Request) (c : ChipState) (l : R.Plls) (asked1 : PllRequest) (neede
   abbrev sys : ℕ
   sys = systemFrom q l
 
-  abbrev Goal : Type 0
-  Goal = Agree Final (afterPlls q c l) (rest c r es0)
-
   -- all that follows the MCOs is written and returned
   ending : (b : R.Buses) (m : R.Mcos) (rb : F.Buses) → SameBuses es2 b es2 rb → Agree Final (ok (planWith q c l b m)) (continue (start-clocks (c .scale) (configAfter q asked1) rb (mcosRust m) es2) (λ u es. continue (start-plls c (configAfter q asked1) (clocksOf l) es) (λ u es. continue (switch-clocks (configAfter q asked1) (needsPll1 q) rb (match-per-ck (q .peripheral) (q .hse) .ckpersel) DefaultX2 es) (λ u es. ends es (clocks-of sys (configAfter q asked1) (clocksOf l) rb (mcosRust m) DefaultX2)))))
   ending b m rb s =
@@ -141,41 +142,40 @@ module _ (q : Request) (c : ChipState) (l : R.Plls) (asked1 : PllRequest) (neede
       (agree-then (KeptMcos es2) Final (mcosOf q l sys) (mcos-calculate sys (configAfter q asked1) (clocksOf l) es2) _ _ (mcos-agree q asked1 l sys es2 (st .one) (st .two))
       (λ m es4 rm k. rw (k .0, k .1) (ending b m rb (record { kept = refl; some = s .some; hclk = s .hclk; pclk1 = s .pclk1; pclk2 = s .pclk2; pclk3 = s .pclk3 })))))
 
-  pub rest-agrees : Goal
-  rest-agrees = rw (system-ends q asked1 l es0 needed) (asserted (c .hsion) (eqb (c .hsidiv) 2) _ (afterAsserts c r sys) es0 running)
+  pub rest-agrees : AgreeOrDepart (oddP c) Final (afterPlls q c l) (rest c r es0)
+  rest-agrees = agree-always (Departure (oddP c)) Final (afterPlls q c l) (rest c r es0) (rw (system-ends q asked1 l es0 needed) (asserted (c .hsion) (eqb (c .hsidiv) 2) _ (afterAsserts c r sys) es0 running))
 
 -- ---- the whole
-pub all-agree : (q : Request) (c : ChipState) → Agree Final (chosenPlan q c) (frozen q c)
+pub all-agree : (q : Request) (c : ChipState) → AgreeOrDepart (oddP c) Final (chosenPlan q c) (frozen q c)
 unfolding chosenPlan
 all-agree q c =
     rw (frozen-parts q c)
-    (agree-then (SameReady q c) Final (pllsOf q c) (ready q c) _ _ (plls-ready q c)
+    (depart-then (SameReady q c) Final (pllsOf q c) (ready q c) _ _ (oddP c) (plls-ready q c) (λ n es r d. rest-keeps (Departure (oddP c) n) (departs-still (oddP c) n) c r es d)
     (λ l es r h. rw (h .entries, h .value) (rest-agrees q c l (h .asked1) (h .needed) (h .third) (h .states))))
 
-agreement-of : (x : Result Plan) (o : Outcome CoreClocks) → Agree Final x o → Agreement (answered x) o
+agreement-of : (odd : ℕ → Bool) (x : Result Plan) (o : Outcome CoreClocks) → AgreeOrDepart odd Final x o → Agreement odd (answered x) o
 unfolding entriesOf
-agreement-of (refused n) panics h = record {
+agreement-of odd (refused n) panics h = record {
   planned = λ e. absurd (let z : _≡_ {A = ℕ} 0 1 = cc in omega arith);
   panicked = λ e. (n, refl);
-  refused = λ k e d. refl;
+  refused = λ m e d14 d15. refl;
+  departed = λ m es k e f. absurd (let z : _≡_ {A = ℕ} 0 1 = cc in omega arith);
 }
-agreement-of (refused n) (ends es k) h = record {
+agreement-of odd (refused n) (ends es k) h = record {
   planned = λ e. absurd (let z : _≡_ {A = ℕ} 0 1 = cc in omega arith);
   panicked = λ e. absurd (let z : _≡_ {A = ℕ} 0 1 = cc in omega arith);
-  refused = λ k e d. absurd (d (let p : n ≡ k = cc in subst Departs p h));
+  refused = λ m e d14 d15. let d : Departure odd m es = subst (λ (x : Refusal). Departure odd x es) (cc) h in absurd (⊎-elim (λ w. d14 (w .0)) (λ w. d15 (w .0)) (d .which));
+  departed = λ m es′ k′ e f. let d : Departure odd m es = subst (λ (x : Refusal). Departure odd x es) (cc) h in subst (λ (l : List Entry). Departure odd m l) (cc) d;
 }
-agreement-of (ok p) panics h = absurd h
-agreement-of (ok p) (ends es k) h = record {
+agreement-of odd (ok p) panics h = absurd h
+agreement-of odd (ok p) (ends es k) h = record {
   planned = λ e. ap (λ (x : List Entry). ends x k) (h .0) ∙ ap (λ (x : CoreClocks). ends (planEntries p) x) (h .1);
   panicked = λ e. absurd (let z : _≡_ {A = ℕ} 0 1 = cc in omega arith);
-  refused = λ k e d. absurd (let z : _≡_ {A = ℕ} 0 1 = cc in omega arith);
+  refused = λ m e d14 d15. absurd (let z : _≡_ {A = ℕ} 0 1 = cc in omega arith);
+  departed = λ m es k e f. absurd (let z : _≡_ {A = ℕ} 0 1 = cc in omega arith);
 }
 
 -- for every request, whether or not the setters can build it
-pub agreement : (q : Request) (c : ChipState) → Agreement (planOf q c) (frozen q c)
-unfolding planOf
-agreement q c = agreement-of (chosenPlan q c) (frozen q c) (all-agree q c)
-
--- for every request that the setters can build
-pub buildable-agree : (q : Request) (c : ChipState) → Buildable q → Agreement (planOf q c) (frozen q c)
-buildable-agree q c b = agreement q c
+pub agreement : (q : Request) (c : ChipState) → Agreement (oddP c) (answerTo q c) (frozen q c)
+unfolding answerTo
+agreement q c = agreement-of (oddP c) (chosenPlan q c) (frozen q c) (all-agree q c)

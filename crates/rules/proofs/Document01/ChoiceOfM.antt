@@ -1,5 +1,4 @@
 -- Laws of the choice of M: what the fold's steps give, that what it holds is in range, and that it is the smallest M with the least shortfall.
--- Assumes nothing.
 use mathlib.Core.Path.{_≡_, refl, sym, ap, _∙_, subst}
 use Prim.Native.Nat.{ℕ, zero, suc, _+_, _-_, _*_, _/_, _≤_, _<_}
 use mathlib.Core.Bool.{Bool, true, false, _&&_}
@@ -8,22 +7,10 @@ use native.Mathlib.Omega.{arith}
 use native.Mathlib.Nat.{le-trans, le-mul-of-pos-right}
 use lib.Dec.{ltb, leb}
 use borrow.Author.Tests.{ltb-true, ltb-false, leb-true, leb-false, le-leb}
+use Rattle.laws.proofs.Tests.{tested, and-left, and-right}
 use Rattle.types.specs.declared.FoundM.{FoundM}
 use Rattle.types.specs.declared.FoundM.the-variants.{Nothing, M}
-use Rattle.rules.specs.Document01.ChoiceOfM.{pick, inRange, shortfallOf, betterOf, bestTo, chosenM, Sound, Admissible, Chosen, numberOf}
-
-and-left : (a b : Bool) → a && b ≡ true → a ≡ true
-and-left true b h = refl
-and-left false b h = h
-
-and-right : (a b : Bool) → a && b ≡ true → b ≡ true
-and-right true b h = h
-and-right false b h = cc
-
--- a test that holds or fails, with the equation
-pub tested : (b : Bool) → (b ≡ true) ⊎ (b ≡ false)
-tested true = inl refl
-tested false = inr refl
+use Rattle.rules.specs.Document01.ChoiceOfM.{inRange, shortfallOf, betterOf, bestTo, chosenM, Admissible, Chosen}
 
 module _ (source low high : ℕ) where
   pub range-low : (m : ℕ) → inRange source low high m ≡ true → m * low ≤ source
@@ -128,13 +115,6 @@ module _ (source target low high : ℕ) where
   best-is zero = λ k i. let h : 1 ≤ k = i .0 in let g : k ≤ 0 = i .1 in omega arith
   best-is (suc n) = step n (best n) (best-is n)
 
-  sound-of : (n : ℕ) → n ≤ 63 → (f : FoundM) → Best n f → Sound source low high f
-  sound-of n h Nothing b = tt
-  sound-of n h (M m) b = let g : m ≤ n = b .0 .1 in (b .0 .0, omega arith, b .0 .2)
-
-  pub best-sound : (n : ℕ) → n ≤ 63 → Sound source low high (best n)
-  best-sound n h = sound-of n h (best n) (best-is n)
-
   -- ---- what the choice means
   abbrev chosen : FoundM
   chosen = chosenM source target low high
@@ -183,34 +163,3 @@ module _ (source target low high : ℕ) where
 
   pub nothing-is : ((k : ℕ) → Admissible source low high k → ⊥) → chosen ≡ Nothing
   nothing-is h = none h chosen refl
-
--- ---- the best so far as two numbers: M or 0, and its shortfall
-abbrev pub Held : (source target : ℕ) → FoundM → ℕ → ℕ → Type 0
-Held source target Nothing b l = b ≡ 0
-Held source target (M k) b l = (b ≡ k) × (1 ≤ k) × (l ≡ shortfallOf source target k)
-
-module _ (source target low high : ℕ) where
-  pub held-out : (f : FoundM) (b l m : ℕ) → Held source target f b l → inRange source low high m ≡ false → Held source target (betterOf source target low high f m) b l
-  held-out f b l m h r = rw (better-out source target low high f m r) h
-
-  pub held-first : (f : FoundM) (b l m : ℕ) → 1 ≤ m → Held source target f b l → inRange source low high m ≡ true → b ≡ 0 → Held source target (betterOf source target low high f m) m (shortfallOf source target m)
-  held-first Nothing b l m o h r e = rw (better-first source target low high m r) (refl, o, refl)
-  held-first (M k) b l m o h r e = absurd (let p : b ≡ k = h .0 in let q : 1 ≤ k = h .1 in omega arith)
-
-  pub held-less : (f : FoundM) (b l m : ℕ) → 1 ≤ m → Held source target f b l → inRange source low high m ≡ true → ltb (shortfallOf source target m) l ≡ true → Held source target (betterOf source target low high f m) m (shortfallOf source target m)
-  held-less Nothing b l m o h r e = rw (better-first source target low high m r) (refl, o, refl)
-  held-less (M k) b l m o h r e = rw (better-less source target low high k m r (sym (ap (λ (x : ℕ). ltb (shortfallOf source target m) x) (h .2)) ∙ e)) (refl, o, refl)
-
-  pub held-not : (f : FoundM) (b l m : ℕ) → Held source target f b l → inRange source low high m ≡ true → (b ≡ 0 → ⊥) → ltb (shortfallOf source target m) l ≡ false → Held source target (betterOf source target low high f m) b l
-  held-not Nothing b l m h r n e = absurd (n h)
-  held-not (M k) b l m h r n e = rw (better-not source target low high k m r (sym (ap (λ (x : ℕ). ltb (shortfallOf source target m) x) (h .2)) ∙ e)) h
-
-pub held-number : (source target : ℕ) (f : FoundM) (b l : ℕ) → Held source target f b l → b ≡ numberOf f
-held-number source target Nothing b l h = h
-held-number source target (M k) b l h = h .0
-
--- a shortfall that is held fits
-pub held-fits : (source target : ℕ) → target < 2147483648 → (f : FoundM) (b l : ℕ) → Held source target f b l → (b ≡ 0 → ⊥) → l < 2147483648
-unfolding shortfallOf
-held-fits source target t Nothing b l h n = absurd (n h)
-held-fits source target t (M k) b l h n = let e = h .2 in omega arith

@@ -1,4 +1,5 @@
--- A list has at most 69 entries (document 01, Register entries).
+-- The length of a list: 21 to 69 for a plan, 0 for a refusal (document 01, Register entries).
+use mathlib.Core.Path.{_≡_, refl}
 use mathlib.Core.Bool.{Bool, true, false}
 use Prim.Native.Nat.{ℕ, _≤_}
 use native.Mathlib.Omega.{arith}
@@ -12,12 +13,12 @@ use Rattle.types.specs.declared.Fraction.the-variants.{Whole, Part}
 use Rattle.types.specs.declared.Pll.{Pll}
 use Rattle.types.specs.declared.Pll.the-variants.{Idle, Runs}
 use Rattle.types.specs.declared.Plan.{Plan}
-use Rattle.types.specs.declared.Answer.{Answer}
+use Rattle.types.specs.declared.Refusal.{Refusal}
 use Rattle.types.specs.declared.Answer.the-variants.{Accepted, Refused}
 use Rattle.types.specs.declared.Planned.{Planned}
 use Rattle.rules.specs.Document01.Fields
 use Rattle.rules.specs.Document01.Fields.{ofPll}
-use Rattle.rules.specs.Document01.Entries.{outputEntries, fractionEntries, settingEntries, setupEntries, pllIn, clockEntries, hseEntries, sourceEntries, outputStart, startEntries, busEntries, planEntries, answerEntries, entriesOf}
+use Rattle.rules.specs.Document01.Entries.{outputEntries, fractionEntries, settingEntries, setupEntries, pllIn, clockEntries, hseEntries, sourceEntries, outputStart, startEntries, busEntries, planEntries, entriesOf}
 
 output-length : (d e : ℕ) (o : PllOutput) → length (outputEntries d e o) ≤ 2
 output-length d e Off = omega arith
@@ -41,7 +42,8 @@ hse-length : (h : Hertz) (b : Bool) → length (hseEntries h b) ≤ 2
 hse-length Unset b = omega arith
 hse-length (Hz h) b = omega arith
 
-source-length : (t : Bool) (s : ℕ) → length (sourceEntries t s) ≤ 3
+-- two or three
+source-length : (t : Bool) (s : ℕ) → (2 ≤ length (sourceEntries t s)) × (length (sourceEntries t s) ≤ 3)
 source-length true s = omega arith
 source-length false s = omega arith
 
@@ -53,15 +55,16 @@ start-length : (k : ℕ) (x : Pll) → length (startEntries k x) ≤ 2
 start-length k Idle = omega arith
 start-length k (Runs s) = output-start-length k (s .p)
 
-clock-length : (p : Plan) → length (clockEntries p) ≤ 9
+clock-length : (p : Plan) → length (clockEntries p) ≡ 9
 unfolding clockEntries
-clock-length p = omega arith
+clock-length p = refl
 
-bus-length : (p : Plan) → length (busEntries p) ≤ 10
+bus-length : (p : Plan) → length (busEntries p) ≡ 10
 unfolding busEntries
-bus-length p = omega arith
+bus-length p = refl
 
-plan-length : (p : Plan) → length (planEntries p) ≤ 69
+-- a plan's list
+pub plan-length : (p : Plan) → (21 ≤ length (planEntries p)) × (length (planEntries p) ≤ 69)
 unfolding planEntries
 plan-length p =
     let setup0 = setup-length 0 (pllIn p 0) in
@@ -76,10 +79,11 @@ plan-length p =
     let buses = bus-length p in
     simp length-append (omega arith)
 
-answer-length : (a : Answer) (p : Plan) → length (answerEntries a p) ≤ 69
-answer-length Accepted p = plan-length p
-answer-length (Refused n) p = omega arith
-
-pub at-most-69 : (x : Planned) → length (entriesOf x) ≤ 69
+-- an answer's list: a plan's, or none
+pub accepted-length : (x : Planned) → x .answer ≡ Accepted → (21 ≤ length (entriesOf x)) × (length (entriesOf x) ≤ 69)
 unfolding entriesOf
-at-most-69 x = answer-length (x .answer) (x .plan)
+accepted-length x e = rw e (plan-length (x .plan))
+
+pub refused-length : (x : Planned) (n : Refusal) → x .answer ≡ Refused n → length (entriesOf x) ≡ 0
+unfolding entriesOf
+refused-length x n e = rw e

@@ -1,5 +1,4 @@
 -- Laws of the VCO's target: it is at most the range's end, every output from min to max has a divider from 1 to 128, and N lies in its range.
--- Assumes nothing.
 use mathlib.Core.Path.{_≡_, refl, sym, ap, _∙_, subst}
 use Prim.Native.Nat.{ℕ, zero, suc, _+_, _-_, _*_, _/_, _≤_, _<_}
 use mathlib.Core.Bool.{Bool, true, false}
@@ -8,10 +7,11 @@ use native.Mathlib.Omega.{arith}
 use native.Mathlib.Nat.{le-trans, le-of-lt, lt-of-le-of-lt, mul-le-mul-left, mul-le-mul-right, le-div-iff-mul-le, div-lt-iff-lt-mul, mul-div-le, div-mul-le-self, div-le-self, div-le-of-le-mul, div-div-eq-div-mul, mul-comm}
 use lib.Dec.{ltb, leb}
 use borrow.Author.Tests.{ltb-true, ltb-false, leb-true, leb-false, lt-ltb, le-ltb}
-use Rattle.rules.specs.Document01.ChoiceOfM.{pick, inRange}
+use Rattle.rules.specs.Document01.ChoiceOfM.{inRange}
 use Rattle.rules.specs.Document01.Target.{ceil128, topOf, targetOf}
 use Rattle.laws.proofs.Numbers.{div-pos, div-anti, div-mono, div-swap, div-between, le-div, div-le}
-use Rattle.rules.proofs.Document01.ChoiceOfM.{tested, range-low, range-high}
+use Rattle.rules.proofs.Document01.ChoiceOfM.{range-low, range-high}
+use Rattle.laws.proofs.Tests.{tested}
 
 module _ (max end : ℕ) where
   pub top-le : topOf max end ≤ end
@@ -61,7 +61,7 @@ module _ (min max end : ℕ) where
 
   -- Where max is more than 128,000,000, max goes into end at most four times, and min is so large that the top is at most 128 * 4 times min and less than min more:
   -- so the target, cut as it is, is max or more. Where max is at most 128,000,000 the target, which is not below that, is max or more.
-  cut-above : 1 ≤ min → end ≤ 560000000 → max / 128 ≤ min → 128000000 < max → 128 < top / min → max ≤ top / ceil128 (top / min)
+  cut-above : 1 ≤ min → end ≤ 560_000_000 → max / 128 ≤ min → 128_000_000 < max → 128 < top / min → max ≤ top / ceil128 (top / min)
   unfolding topOf
   cut-above a d e large over =
       let k : ℕ = end / max in
@@ -74,13 +74,13 @@ module _ (min max end : ℕ) where
       let f : ceil128 (max * k / min) ≤ k = omega arith in
       le-div (omega arith) (mul-le-mul-left max f)
 
-  pub target-above : 1 ≤ min → min ≤ max → max < end → end ≤ 560000000 → max / 128 ≤ min → 128000000 ≤ target → max ≤ target
+  pub target-above : 1 ≤ min → min ≤ max → max < end → end ≤ 560_000_000 → max / 128 ≤ min → 128_000_000 ≤ target → max ≤ target
   target-above a b c d e f =
       ⊎-elim (λ (w : Whole). rw (w .1) (top-above max end (le-trans a b) (le-of-lt c)))
-      (λ (w : Cut). ⊎-elim (λ h. le-trans (leb-true max 128000000 h) f) (λ h. rw (w .1) (cut-above a d e (leb-false max 128000000 h) (w .0))) (tested (leb max 128000000))) target-cases
+      (λ (w : Cut). ⊎-elim (λ h. le-trans (leb-true max 128_000_000 h) f) (λ h. rw (w .1) (cut-above a d e (leb-false max 128_000_000 h) (w .0))) (tested (leb max 128_000_000))) target-cases
 
   -- an output up to max is divided by at least 1
-  pub divider-pos : 1 ≤ min → min ≤ max → max < end → end ≤ 560000000 → max / 128 ≤ min → 128000000 ≤ target → (o : ℕ) → 1 ≤ o → o ≤ max → 1 ≤ target / o
+  pub divider-pos : 1 ≤ min → min ≤ max → max < end → end ≤ 560_000_000 → max / 128 ≤ min → 128_000_000 ≤ target → (o : ℕ) → 1 ≤ o → o ≤ max → 1 ≤ target / o
   divider-pos a b c d e f o g h = div-pos g (le-trans h (target-above a b c d e f))
 
 -- ---- the reference and N
@@ -94,9 +94,3 @@ module _ (source low high m : ℕ) (above : 1 ≤ m) (r : inRange source low hig
 -- N of a target in a range of outputs: between the quotients at the ends
 pub n-between : (source low high m t a b : ℕ) → 1 ≤ low → 1 ≤ m → inRange source low high m ≡ true → a ≤ t → t ≤ b → (a / high ≤ t / (source / m)) × (t / (source / m) ≤ b / low)
 n-between source low high m t a b l h r p q = div-between l (ref-low source low high m h r) (ref-high source low high m h r) p q
-
-pub n-medium : (source m t : ℕ) → 1 ≤ m → inRange source 1000000 2000000 m ≡ true → 150000000 ≤ t → t ≤ 420000000 → (75 ≤ t / (source / m)) × (t / (source / m) ≤ 420)
-n-medium source m t h r p q = n-between source 1000000 2000000 m t 150000000 420000000 (omega arith) h r p q
-
-pub n-wide : (source m t : ℕ) → 1 ≤ m → inRange source 2000000 16000000 m ≡ true → 128000000 ≤ t → t ≤ 560000000 → (8 ≤ t / (source / m)) × (t / (source / m) ≤ 280)
-n-wide source m t h r p q = n-between source 2000000 16000000 m t 128000000 560000000 (omega arith) h r p q

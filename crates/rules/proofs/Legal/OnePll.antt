@@ -1,14 +1,14 @@
 -- A PLL that is planned has legal numbers: the laws of a range and of the dividers, and what `pllOf` comes to.
-use mathlib.Core.Path.{_≡_, refl, subst}
+use mathlib.Core.Path.{_≡_, refl, sym, subst, _∙_}
 use mathlib.Core.Logic.{_⊎_, inl, inr, ⊎-elim}
 use mathlib.Core.Bool.{Bool, true, false, _&&_, _||_}
-use Prim.Native.Nat.{ℕ, _/_, _%_, _≤_, _<_, _^_}
+use Prim.Native.Nat.{ℕ, _+_, _-_, _*_, _/_, _%_, _≤_, _<_, _^_}
 use native.Mathlib.Omega.{arith}
-use native.Mathlib.Nat.{le-trans}
-use lib.Dec.{leb, ltb, eqb, lit≤}
+use native.Mathlib.Nat.{le-trans, le-of-lt, lt-of-le-of-lt, le-div-iff-mul-le, div-lt-iff-lt-mul, mul-comm, mul-div-le, div-add-mod', mod-lt, div-le-self}
+use lib.Dec.{leb, ltb, eqb, lit≤, lit<}
 use lib.Ieee.{Float, le, ofInt, toUnsigned}
 use lib.Ieee.Casts.{toUnsigned-lt}
-use borrow.Author.Tests.{leb-true, ltb-true, eqb-true}
+use borrow.Author.Tests.{leb-true, le-leb, ltb-true, ltb-false}
 use Rattle.types.specs.declared.Hertz.{Hertz}
 use Rattle.types.specs.declared.Hertz.the-variants.{Unset, Hz}
 use Rattle.types.specs.declared.Strategy.{Strategy}
@@ -16,6 +16,9 @@ use Rattle.types.specs.declared.Strategy.the-variants.{Integer, Fractional}
 use Rattle.types.specs.declared.PllRequest.{PllRequest}
 use Rattle.types.specs.declared.PllSettings.{PllSettings}
 use Rattle.types.specs.declared.Fraction.{Fraction}
+use Rattle.types.specs.declared.Fraction.the-variants.{Whole, Part}
+use Rattle.types.specs.declared.Fracn.{Fracn}
+use Rattle.types.specs.declared.Fracn.the-variants.{Value, OutOfRange}
 use Rattle.types.specs.declared.Refusal.the-variants.{NOutside}
 use Rattle.types.specs.declared.FoundM.{FoundM}
 use Rattle.types.specs.declared.FoundM.the-variants.{Nothing, M}
@@ -24,29 +27,34 @@ use Rattle.rules.specs.Document01.Target.{targetOf}
 use Rattle.rules.proofs.Document01.ChoiceOfM.{chosen-some}
 use Rattle.rules.proofs.Document01.Target.{divider-le, divider-pos}
 use Rattle.ieee754.specs.Steps.{float, fracnFloat, fracnOf}
+use Rattle.ieee754.specs.Whole.{fracnWhole, vcoWhole}
+use Rattle.ieee754.proofs.Same.{fracn-same, vco-same}
+use Rattle.laws.proofs.Numbers.{le-div, div-le}
 use Rattle.ieee754.proofs.Cut.{cut-in, zero8191}
 use Rattle.rules.specs.Document01.Result.{Result, refused, ok, _>>_}
-use Rattle.rules.specs.Document01.Hertz.{notZero}
-use Rattle.rules.specs.Document01.OnePll.{wanted, noneZero, countedP, countedOutputs, least, largest, Range, medium, wide, rangeOf, firstOf, fractionOf, vcoBy, outputOf, dividerP, allowedP, spanned, dividedBy, settingsOf, settled, runs, running, pllOf}
-use Rattle.rules.specs.Demands.Legal.{LegalOutput, EvenP, LegalFraction, InRange, Legal, LegalPll}
+use Rattle.rules.specs.Document01.Hertz.{hertzOr, orElse, notZero}
+use Rattle.rules.specs.Document01.OnePll.{wanted, noneZero, countedP, countedOutputs, least, largest, Range, medium, wide, rangeOf, rgeOf, firstOf, taken, fractionOf, vcoBy, outputOf, dividerP, allowedP, spanned, dividedBy, settingsOf, settled, runs, running, pllOf}
+use Rattle.rules.specs.Demands.Legal.{LegalOutput, LegalP, LegalVco, Legal, LegalPll}
+use Rattle.rules.specs.Manual.PllFields.{rgeSpan, vcoSpan, inputSpan, Within, FieldFracn}
 use Rattle.laws.proofs.Tests.{by-test, and-left, and-right}
-use Rattle.rules.proofs.Document01.Holds.{Holds, holds-tested, holds-known}
+use Rattle.rules.proofs.Document01.Results.{Holds, holds-tested, holds-known, holds-both}
+use Rattle.rules.proofs.Document01.Multiplier.{range-kind}
 use Rattle.rules.proofs.Document01.Span.{Pos, pos-is, Inside, Span, span}
 
 -- what is known of a range that is chosen for a largest output
 pub record Good (g : Range) (most : ℕ) : Type 0 where
   pub lows : 1 ≤ g .low
-  pub million : 1000000 ≤ g .low
+  pub million : 1_000_000 ≤ g .low
   pub highs : 1 ≤ g .high
-  pub from : 128000000 ≤ g .start
-  pub to : g .end ≤ 560000000
+  pub from : 128_000_000 ≤ g .start
+  pub to : g .end ≤ 560_000_000
   pub above : most < g .end
 
-pub range-good : (most : ℕ) → ltb most 560000000 ≡ true → Good (rangeOf most) most
+pub range-good : (most : ℕ) → ltb most 560_000_000 ≡ true → Good (rangeOf most) most
 range-good most t =
-    by-test (ltb most 420000000)
-    (λ (s : ltb most 420000000 ≡ true). rw s (record { lows = lit≤ tt; million = lit≤ tt; highs = lit≤ tt; from = lit≤ tt; to = lit≤ tt; above = ltb-true most 420000000 s }))
-    (λ (f : ltb most 420000000 ≡ false). rw f (record { lows = lit≤ tt; million = lit≤ tt; highs = lit≤ tt; from = lit≤ tt; to = lit≤ tt; above = ltb-true most 560000000 t }))
+    by-test (ltb most 420_000_000)
+    (λ (s : ltb most 420_000_000 ≡ true). rw s (record { lows = lit≤ tt; million = lit≤ tt; highs = lit≤ tt; from = lit≤ tt; to = lit≤ tt; above = ltb-true most 420_000_000 s }))
+    (λ (f : ltb most 420_000_000 ≡ false). rw f (record { lows = lit≤ tt; million = lit≤ tt; highs = lit≤ tt; from = lit≤ tt; to = lit≤ tt; above = ltb-true most 560_000_000 t }))
 
 -- ---- a divider
 -- from 1 to 128
@@ -69,7 +77,7 @@ counts true h = omega arith
 counts false h = omega arith
 
 -- the dividers, where the target is in its range
-module _ (low most : ℕ) (g : Range) (a1 : 1 ≤ low) (a2 : low ≤ most) (a3 : Good g most) (a4 : most / 128 ≤ low) (a5 : 128000000 ≤ targetOf low most (g .end)) where
+module _ (low most : ℕ) (g : Range) (a1 : 1 ≤ low) (a2 : low ≤ most) (a3 : Good g most) (a4 : most / 128 ≤ low) (a5 : 128_000_000 ≤ targetOf low most (g .end)) where
   pub divider-p : (odd : Bool) (h : Hertz) → Inside (countedP odd) low most h → Pos h → SomeDivider (targetOf low most (g .end)) h
   divider-p odd Unset i p = tt
   divider-p odd (Hz h) i p = divider-pos low most (g .end) a1 a2 (a3 .above) (a3 .to) a4 a5 h p (le-trans (counts odd h) (i .1))
@@ -79,10 +87,14 @@ module _ (low most : ℕ) (g : Range) (a1 : 1 ≤ low) (a2 : low ≤ most) (a3 :
   divider-q (Hz h) i p = (divider-pos low most (g .end) a1 a2 (a3 .above) (a3 .to) a4 a5 h p (i .1), divider-le low most (g .end) a1 h (i .0))
 
 -- ---- FRACN
-fraction-legal : (s : Strategy) (ref n d o : ℕ) → Holds LegalFraction (fractionOf s ref n d o)
+abbrev Bounded : Fraction → Type 0
+Bounded Whole = Unit {0}
+Bounded (Part f) = FieldFracn f
+
+fraction-bounded : (s : Strategy) (ref n d o : ℕ) → Holds Bounded (fractionOf s ref n d o)
 unfolding fracnOf ofInt
-fraction-legal Integer ref n d o = tt
-fraction-legal Fractional ref n d o =
+fraction-bounded Integer ref n d o = tt
+fraction-bounded Fractional ref n d o =
     let f : Float = fracnFloat (float ref) (float n) (float d) (float o) in
     by-test (le (float 0) f)
     (λ (s : le (float 0) f ≡ true). by-test (le f (float 8191))
@@ -94,18 +106,56 @@ fraction-legal Fractional ref n d o =
     (λ (n : le f (float 8191) ≡ false). rw (s, n) tt))
     (λ (n : le (float 0) f ≡ false). rw n tt)
 
+-- the same FRACN over whole numbers
+abbrev InWhole : (ref n d o : ℕ) → Fraction → Type 0
+InWhole ref n d o Whole = Unit {0}
+InWhole ref n d o (Part f) = fracnWhole ref n d o ≡ Value f
+
+module _ (ref n d o : ℕ) (r1 : 0 < ref) (r32 : ref < 2 ^ 32) (n32 : n < 2 ^ 32) (d32 : d < 2 ^ 32) (o32 : o < 2 ^ 32) where
+  taken-whole : (v : Fracn) → fracnOf (float ref) (float n) (float d) (float o) ≡ v → Holds (InWhole ref n d o) (taken v)
+  taken-whole (Value f) e = sym (fracn-same ref n d o r1 r32 n32 d32 o32) ∙ e
+  taken-whole OutOfRange e = tt
+
+  fraction-whole : (s : Strategy) → Holds (InWhole ref n d o) (fractionOf s ref n d o)
+  fraction-whole Integer = tt
+  fraction-whole Fractional = taken-whole (fracnOf (float ref) (float n) (float d) (float o)) refl
+
+-- ---- the reference lies where RGE says
+pub rge-within : (source m : ℕ) → 1 ≤ m → 1_000_000 * m ≤ source → source ≤ 16_000_000 * m → Within (rgeSpan (rgeOf (source / m))) source m
+rge-within source m h l u =
+    by-test (ltb (source / m) 2_000_000)
+    (λ t2. rw t2 (record { from = l; to = up 2_000_000 t2 }))
+    (λ f2. by-test (ltb (source / m) 4_000_000)
+    (λ t4. rw (f2, t4) (record { from = down 2_000_000 f2; to = up 4_000_000 t4 }))
+    (λ f4. by-test (ltb (source / m) 8_000_000)
+    (λ t8. rw (f2, f4, t8) (record { from = down 4_000_000 f4; to = up 8_000_000 t8 }))
+    (λ f8. rw (f2, f4, f8) (record { from = down 8_000_000 f8; to = u }))))
+  where
+    up : (k : ℕ) → ltb (source / m) k ≡ true → source ≤ k * m
+    up k t = le-of-lt (div-lt-iff-lt-mul {k = m} {x = source} {y = k} h .0 (ltb-true (source / m) k t))
+
+    down : (k : ℕ) → ltb (source / m) k ≡ false → k * m ≤ source
+    down k f = le-div-iff-mul-le {k = m} {x = k} {y = source} h .0 (ltb-false (source / m) k f)
+
 -- ---- the outputs
 output-legal : (target vco : ℕ) (h : Hertz) → Divides target h → LegalOutput vco (outputOf target vco h)
 output-legal target vco Unset d = tt
-output-legal target vco (Hz h) d = (d .0, d .1, refl)
+output-legal target vco (Hz h) d = record { some = d .0; field = let l : target / h ≤ 128 = d .1 in omega arith; hertz = refl }
 
-even-legal : (odd : Bool) (target vco : ℕ) (h : Hertz) → odd || eqb (dividerP target h % 2) 0 ≡ true → EvenP odd (outputOf target vco h)
-even-legal true target vco h t = tt
-even-legal false target vco Unset t = tt
-even-legal false target vco (Hz h) t = eqb-true (target / h % 2) 0 t
+p-legal : (odd : Bool) (target vco : ℕ) (h : Hertz) → SomeDivider target h → leb (dividerP target h) 128 ≡ true → odd || eqb (dividerP target h % 2) 0 ≡ true → LegalP odd (outputOf target vco h)
+p-legal odd target vco Unset s t e = tt
+p-legal odd target vco (Hz h) s t e =
+    let l : target / h ≤ 128 = leb-true (target / h) 128 t in
+    let back : target / h - 1 + 1 ≡ target / h = omega arith in
+    rw (le-leb (target / h - 1) 127 (omega arith), back) e
+
+-- ---- a range, and the manual's spans of its VCOSEL
+spans : (g : Range) → (g ≡ medium) ⊎ (g ≡ wide) → (inputSpan (g .vcosel) ≡ record { low = g .low; high = g .high }) × (vcoSpan (g .vcosel) ≡ record { low = g .start; high = g .end })
+spans g (inl e) = rw e (refl, refl)
+spans g (inr e) = rw e (refl, refl)
 
 -- ---- one PLL
-module _ (odd : Bool) (source : ℕ) (a : PllRequest) (g : Range) (target m : ℕ) (c : Admissible source (g .low) (g .high) m) (st : g .start ≤ target) (en : target ≤ g .end) (kind : (g ≡ medium) ⊎ (g ≡ wide)) (dp : SomeDivider target (a .p)) (dq : Divides target (a .q)) (dr : Divides target (a .r)) where
+module _ (odd : Bool) (source : ℕ) (a : PllRequest) (g : Range) (target m : ℕ) (c : Admissible source (g .low) (g .high) m) (st : g .start ≤ target) (en : target ≤ g .end) (small : g .end ≤ 560_000_000) (kind : (g ≡ medium) ⊎ (g ≡ wide)) (first32 : firstOf a < 2 ^ 32) (dp : SomeDivider target (a .p)) (dq : Divides target (a .q)) (dr : Divides target (a .r)) where
   abbrev ref : ℕ
   ref = source / m
 
@@ -115,46 +165,80 @@ module _ (odd : Bool) (source : ℕ) (a : PllRequest) (g : Range) (target m : �
   abbrev settings : Fraction → PllSettings
   settings f = settingsOf a g target m ref n f
 
-  ranged : (f : Fraction) → InRange g source (settings f)
-  ranged f = record { vcosel = refl; from-low = c .from-low; to-high = c .to-high; from-start = st; to-end = en }
+  -- M × low ≤ source ≤ M × high, and what that gives of the reference
+  lows : g .low * m ≤ source
+  lows = subst (λ (x : ℕ). x ≤ source) (mul-comm m (g .low)) (c .from-low)
 
-  which : (f : Fraction) → InRange medium source (settings f) ⊎ InRange wide source (settings f)
-  which f = ⊎-elim (λ (e : g ≡ medium). inl (subst (λ (x : Range). InRange x source (settings f)) e (ranged f))) (λ (e : g ≡ wide). inr (subst (λ (x : Range). InRange x source (settings f)) e (ranged f))) kind
+  highs : source ≤ g .high * m
+  highs = subst (λ (x : ℕ). source ≤ x) (mul-comm m (g .high)) (c .to-high)
 
-  allowed-legal : (f : Fraction) → LegalFraction f → leb 4 n && leb n 512 ≡ true → Holds (Legal odd source) (allowedP odd (dividerP target (a .p)) >> ok (settings f))
-  allowed-legal f lf t =
+  ends : (1_000_000 * m ≤ source) × (source ≤ 16_000_000 * m)
+  ends = ⊎-elim (λ (e : g ≡ medium). let l = subst (λ (x : Range). x .low * m ≤ source) e lows in let h = subst (λ (x : Range). source ≤ x .high * m) e highs in omega arith) (λ (e : g ≡ wide). let l = subst (λ (x : Range). x .low * m ≤ source) e lows in let h = subst (λ (x : Range). source ≤ x .high * m) e highs in omega arith) kind
+
+  ref-some : 1 ≤ ref
+  ref-some = le-div (c .above) (let l = ends .0 in omega arith)
+
+  ref-32 : ref < 2 ^ 32
+  ref-32 = lt-of-le-of-lt (div-le m (subst (λ (x : ℕ). source ≤ x) (mul-comm 16_000_000 m) (ends .1))) (lit< tt)
+
+  target-32 : target < 2 ^ 32
+  target-32 = omega arith
+
+  n-32 : n < 2 ^ 32
+  n-32 = lt-of-le-of-lt (div-le-self target ref) target-32
+
+  first-32 : target / firstOf a < 2 ^ 32
+  first-32 = lt-of-le-of-lt (div-le-self target (firstOf a)) target-32
+
+  -- FRACN, and the VCO
+  vco-legal : (f : Fraction) → Bounded f → InWhole ref n (target / firstOf a) (firstOf a) f → LegalVco (firstOf a) (settings f) f
+  vco-legal Whole b w =
+      let span = spans g kind .1 in
+      let below : ref * n ≤ target = mul-div-le target ref in
+      let above : target < ref * n + ref = omega (arith, div-add-mod' target ref, mod-lt target ref-some, mul-comm ref n) in
+      record { product = refl; from = rw span (omega arith); to = rw span (omega arith) }
+  vco-legal (Part f) b w = record { field = b; fracn = w; vco = vco-same ref n f ref-32 n-32 (let l : f ≤ 8191 = b in omega arith) }
+
+  allowed-legal : (f : Fraction) → Bounded f → InWhole ref n (target / firstOf a) (firstOf a) f → leb 4 n && leb n 512 ≡ true → Holds (Legal odd source a) (allowedP odd (dividerP target (a .p)) >> ok (settings f))
+  allowed-legal f b w t =
+      let four : 4 ≤ n = leb-true 4 n (and-left (leb 4 n) (leb n 512) t) in
+      let most : n ≤ 512 = leb-true n 512 (and-right (leb 4 n) (leb n 512) t) in
       by-test (leb (dividerP target (a .p)) 128)
       (λ (s : leb (dividerP target (a .p)) 128 ≡ true).
       by-test (odd || eqb (dividerP target (a .p) % 2) 0)
       (λ (e : odd || eqb (dividerP target (a .p) % 2) 0 ≡ true).
       rw (s, e) (record {
-        range = which f;
-        m-low = c .above;
-        m-high = c .within;
+        m = record { from = c .above; to = c .within };
+        rge = rge-within source m (c .above) (ends .0) (ends .1);
+        input = rw (spans g kind .0) (record { from = lows; to = highs });
         reference = refl;
-        rge = refl;
-        n = refl;
-        n-low = leb-true 4 n (and-left (leb 4 n) (leb n 512) t);
-        n-high = leb-true n 512 (and-right (leb 4 n) (leb n 512) t);
-        fraction = lf;
-        vco = refl;
+        n = record { from = omega arith; to = omega arith };
+        target = rw (spans g kind .1) (record { from = omega arith; to = omega arith });
+        vco = vco-legal f b w;
         p = output-legal target (vcoBy f ref n) (a .p) (divides-p target (a .p) dp s);
         q = output-legal target (vcoBy f ref n) (a .q) dq;
         r = output-legal target (vcoBy f ref n) (a .r) dr;
-        even = even-legal odd target (vcoBy f ref n) (a .p) e;
+        odd-p = p-legal odd target (vcoBy f ref n) (a .p) dp s e;
       }))
       (λ (e : odd || eqb (dividerP target (a .p) % 2) 0 ≡ false). rw (s, e) tt))
       (λ (s : leb (dividerP target (a .p)) 128 ≡ false). rw s tt)
 
-  settled-legal : Holds (Legal odd source) (settled odd a g target m ref n)
+  settled-legal : Holds (Legal odd source a) (settled odd a g target m ref n)
   unfolding settled
   settled-legal =
-      holds-tested (Legal odd source) (leb 4 n && leb n 512) NOutside _
-      (λ t. holds-known (Legal odd source) LegalFraction (fractionOf (a .strategy) ref n (target / firstOf a) (firstOf a)) _ (fraction-legal (a .strategy) ref n (target / firstOf a) (firstOf a)) (λ f lf. allowed-legal f lf t))
+      holds-tested (Legal odd source a) (leb 4 n && leb n 512) NOutside _
+      (λ t. holds-known (Legal odd source a) (λ f. Bounded f × InWhole ref n (target / firstOf a) (firstOf a) f) (fractionOf (a .strategy) ref n (target / firstOf a) (firstOf a)) _
+      (holds-both Bounded (InWhole ref n (target / firstOf a) (firstOf a)) (fractionOf (a .strategy) ref n (target / firstOf a) (firstOf a))
+      (fraction-bounded (a .strategy) ref n (target / firstOf a) (firstOf a))
+      (fraction-whole ref n (target / firstOf a) (firstOf a) ref-some ref-32 n-32 first-32 first32 (a .strategy)))
+      (λ f k. allowed-legal f (k .0) (k .1) t))
 
--- a range is medium or wide
-range-kind : (top : ℕ) → (rangeOf top ≡ medium) ⊎ (rangeOf top ≡ wide)
-range-kind top = by-test (ltb top 420000000) (λ (t : ltb top 420000000 ≡ true). inl (rw t)) (λ (f : ltb top 420000000 ≡ false). inr (rw f))
+-- the first requested output is at most the largest
+first-most : (odd : Bool) (p q r : Hertz) (low most : ℕ) → Inside (countedP odd) low most p → Inside (λ h. h) low most q → Inside (λ h. h) low most r → hertzOr (orElse p (orElse q r)) 0 ≤ most
+first-most odd (Hz p) q r low most i j k = le-trans (counts odd p) (i .1)
+first-most odd Unset (Hz q) r low most i j k = j .1
+first-most odd Unset Unset (Hz r) low most i j k = k .1
+first-most odd Unset Unset Unset low most i j k = omega arith
 
 module _ (odd : Bool) (source : ℕ) (a : PllRequest) (w : wanted a ≡ true) where
   abbrev low : ℕ
@@ -169,7 +253,7 @@ module _ (odd : Bool) (source : ℕ) (a : PllRequest) (w : wanted a ≡ true) wh
   abbrev target : ℕ
   target = targetOf low most (g .end)
 
-  after-span : noneZero a ≡ true → leb (most / 128) low ≡ true → ltb most 560000000 ≡ true → leb (g .start) target && leb target (g .end) ≡ true → (m : ℕ) → chosenM source target (g .low) (g .high) ≡ M m → Holds (Legal odd source) (settled odd a g target m (source / m) (target / (source / m)))
+  after-span : noneZero a ≡ true → leb (most / 128) low ≡ true → ltb most 560_000_000 ≡ true → leb (g .start) target && leb target (g .end) ≡ true → (m : ℕ) → chosenM source target (g .low) (g .high) ≡ M m → Holds (Legal odd source a) (settled odd a g target m (source / m) (target / (source / m)))
   after-span z t8 t9 t10 m e =
       let pp : Pos (a .p) = pos-is (a .p) (and-left (notZero (a .p)) _ z) in
       let pq : Pos (a .q) = pos-is (a .q) (and-left (notZero (a .q)) _ (and-right (notZero (a .p)) _ z)) in
@@ -179,35 +263,37 @@ module _ (odd : Bool) (source : ℕ) (a : PllRequest) (w : wanted a ≡ true) wh
       let st : g .start ≤ target = leb-true (g .start) target (and-left (leb (g .start) target) (leb target (g .end)) t10) in
       let en : target ≤ g .end = leb-true target (g .end) (and-right (leb (g .start) target) (leb target (g .end)) t10) in
       let far : most / 128 ≤ low = leb-true (most / 128) low t8 in
-      let t1 : 128000000 ≤ target = le-trans (gd .from) st in
-      settled-legal odd source a g target m (chosen-some source target (g .low) (g .high) m e .admissible) st en (range-kind most)
+      let t1 : 128_000_000 ≤ target = le-trans (gd .from) st in
+      let top : most < 560_000_000 = ltb-true most 560_000_000 t9 in
+      let first32 : firstOf a < 2 ^ 32 = lt-of-le-of-lt (first-most odd (a .p) (a .q) (a .r) low most (sp .inP) (sp .inQ) (sp .inR)) (omega arith) in
+      settled-legal odd source a g target m (chosen-some source target (g .low) (g .high) m e .admissible) st en (gd .to) (range-kind most) first32
       (divider-p low most g (sp .above) (sp .order) gd far t1 odd (a .p) (sp .inP) pp)
       (divider-q low most g (sp .above) (sp .order) gd far t1 (a .q) (sp .inQ) pq)
       (divider-q low most g (sp .above) (sp .order) gd far t1 (a .r) (sp .inR) pr)
 
-  by-choice : noneZero a ≡ true → leb (most / 128) low ≡ true → ltb most 560000000 ≡ true → leb (g .start) target && leb target (g .end) ≡ true → (f : FoundM) → chosenM source target (g .low) (g .high) ≡ f → Holds (Legal odd source) (runs odd source a)
+  by-choice : noneZero a ≡ true → leb (most / 128) low ≡ true → ltb most 560_000_000 ≡ true → leb (g .start) target && leb target (g .end) ≡ true → (f : FoundM) → chosenM source target (g .low) (g .high) ≡ f → Holds (Legal odd source a) (runs odd source a)
   unfolding runs spanned dividedBy
   by-choice z t8 t9 t10 Nothing e = rw (z, t8, t9, t10, e) tt
   by-choice z t8 t9 t10 (M m) e = rw (z, t8, t9, t10, e) (after-span z t8 t9 t10 m e)
 
-  runs-legal : Holds (Legal odd source) (runs odd source a)
+  runs-legal : Holds (Legal odd source a) (runs odd source a)
   unfolding runs spanned dividedBy
   runs-legal =
       by-test (noneZero a) (λ (z : noneZero a ≡ true).
       by-test (leb (most / 128) low) (λ (t8 : leb (most / 128) low ≡ true).
-      by-test (ltb most 560000000) (λ (t9 : ltb most 560000000 ≡ true).
+      by-test (ltb most 560_000_000) (λ (t9 : ltb most 560_000_000 ≡ true).
       by-test (leb (g .start) target && leb target (g .end)) (λ t10. by-choice z t8 t9 t10 (chosenM source target (g .low) (g .high)) refl)
       (λ (f : leb (g .start) target && leb target (g .end) ≡ false). rw (z, t8, t9, f) tt))
-      (λ (f : ltb most 560000000 ≡ false). rw (z, t8, f) tt))
+      (λ (f : ltb most 560_000_000 ≡ false). rw (z, t8, f) tt))
       (λ (f : leb (most / 128) low ≡ false). rw (z, f) tt))
       (λ (f : noneZero a ≡ false). rw f tt)
 
-running-legal : (odd : Bool) (source : ℕ) (x : Result PllSettings) → Holds (Legal odd source) x → Holds (LegalPll odd source) (running x)
-running-legal odd source (refused n) h = tt
-running-legal odd source (ok s) h = h
+running-legal : (odd : Bool) (source : ℕ) (a : PllRequest) (x : Result PllSettings) → Holds (Legal odd source a) x → Holds (LegalPll odd source a) (running x)
+running-legal odd source a (refused n) h = tt
+running-legal odd source a (ok s) h = h
 
 -- a PLL that is planned is idle or legal
-pub pll-legal : (odd : Bool) (source : ℕ) (a : PllRequest) → Holds (LegalPll odd source) (pllOf odd source a)
+pub pll-legal : (odd : Bool) (source : ℕ) (a : PllRequest) → Holds (LegalPll odd source a) (pllOf odd source a)
 unfolding pllOf
 pll-legal odd source a =
-    by-test (wanted a) (λ (w : wanted a ≡ true). rw w (running-legal odd source (runs odd source a) (runs-legal odd source a w))) (λ (w : wanted a ≡ false). rw w tt)
+    by-test (wanted a) (λ (w : wanted a ≡ true). rw w (running-legal odd source a (runs odd source a) (runs-legal odd source a w))) (λ (w : wanted a ≡ false). rw w tt)

@@ -1,27 +1,38 @@
--- The PLLs of every plan have legal numbers.
-use mathlib.Core.Path.{_≡_}
+-- Every plan is legal: demand 2, the manuals and IEEE 754.
+use mathlib.Core.Path.{_≡_, refl, subst}
 use mathlib.Core.Bool.{true, false}
 use Prim.Native.Nat.{ℕ}
 use native.Mathlib.Omega.{arith}
+use Rattle.types.specs.declared.PllRequest.{PllRequest}
 use Rattle.types.specs.declared.Request.{Request}
 use Rattle.types.specs.declared.ChipState.{ChipState}
 use Rattle.types.specs.declared.Plan.{Plan}
+use Rattle.types.specs.declared.Refusal.the-variants.{Pll1PUnlikeSystem}
 use Rattle.types.specs.declared.Answer.the-variants.{Accepted}
 use Rattle.rules.specs.Document01.Result.{Result, refused, ok}
-use Rattle.rules.specs.Document01.Request.{pllAt, limited, stated, pll1Asked, pll2Asked, sourceOf, systemOf, needsPll1, forSystemClock, sourced}
+use Rattle.rules.specs.Document01.Request.{pllAt, limited, stated, pll1Asked, pll2Asked, sourceOf, systemOf, needsPll1, like, withP, askedOf, forSystemClock, sourced}
 use Rattle.rules.specs.Document01.OnePll.{pllOf}
-use Rattle.rules.specs.Document01.Plan.{Plls, thirdOf, pllsOf, hsiReady, systemFrom, busesOf, mcosOf, planWith, chosenPlan, answered, planOf}
+use Rattle.rules.specs.Document01.Plan.{Plls, thirdOf, pllsOf, hsiReady, systemFrom, busesOf, mcosOf, planWith, chosenPlan, answered, answerTo}
 use Rattle.rules.specs.Demands.Legal.{LegalPll, LegalPlan}
 use Rattle.laws.proofs.Tests.{by-test}
-use Rattle.rules.proofs.Document01.Holds.{Holds, holds-then, holds-next, holds-known}
+use Rattle.rules.proofs.Document01.Results.{Holds, holds-then, holds-next, holds-tested, holds-known}
+use Rattle.rules.proofs.Legal.Flash.{flash-asked}
 use Rattle.rules.proofs.Legal.OnePll.{pll-legal}
 
 pub record LegalPlls (q : Request) (c : ChipState) (l : Plls) : Type 0 where
-  pub pll1 : LegalPll (c .odd1) (sourceOf q) (l .pll1)
-  pub pll2 : LegalPll (c .odd2) (sourceOf q) (l .pll2)
-  pub pll3 : LegalPll (c .odd3) (sourceOf q) (l .pll3)
+  pub pll1 : LegalPll (c .odd1) (sourceOf q) (askedOf q 0) (l .pll1)
+  pub pll2 : LegalPll (c .odd2) (sourceOf q) (askedOf q 1) (l .pll2)
+  pub pll3 : LegalPll (c .odd3) (sourceOf q) (askedOf q 2) (l .pll3)
 
-third-legal : (q : Request) (c : ChipState) → Holds (LegalPll (c .odd3) (sourceOf q)) (thirdOf q c)
+-- what PLL1 is asked for, once refusal 5 does not fit
+pub asked-first : (q : Request) → Holds (λ a. a ≡ askedOf q 0) (forSystemClock (needsPll1 q) (systemOf q) (pll1Asked q))
+unfolding forSystemClock
+asked-first q =
+    by-test (needsPll1 q)
+    (λ t. rw t (holds-tested (λ a. a ≡ withP (pll1Asked q) (systemOf q)) (like (pll1Asked q .p) (systemOf q)) Pll1PUnlikeSystem _ (λ s. refl)))
+    (λ f. rw f refl)
+
+third-legal : (q : Request) (c : ChipState) → Holds (LegalPll (c .odd3) (sourceOf q) (askedOf q 2)) (thirdOf q c)
 third-legal q c =
     by-test (c .three) (λ (t : c .three ≡ true). rw t (pll-legal (c .odd3) (sourceOf q) (pllAt q 2))) (λ (f : c .three ≡ false). rw f tt)
 
@@ -30,12 +41,12 @@ unfolding pllsOf
 plls-legal q c =
     holds-next (LegalPlls q c) (limited q) _
     (holds-next (LegalPlls q c) (stated q) _
-    (holds-then (LegalPlls q c) (forSystemClock (needsPll1 q) (systemOf q) (pll1Asked q)) _
-    (λ asked1. holds-next (LegalPlls q c) (sourced q) _
-    (holds-known (LegalPlls q c) (LegalPll (c .odd1) (sourceOf q)) (pllOf (c .odd1) (sourceOf q) asked1) _ (pll-legal (c .odd1) (sourceOf q) asked1)
-    (λ x1 l1. holds-known (LegalPlls q c) (LegalPll (c .odd2) (sourceOf q)) (pllOf (c .odd2) (sourceOf q) (pll2Asked q)) _ (pll-legal (c .odd2) (sourceOf q) (pll2Asked q))
-    (λ x2 l2. holds-known (LegalPlls q c) (LegalPll (c .odd3) (sourceOf q)) (thirdOf q c) _ (third-legal q c)
-    (λ x3 l3. record { pll1 = l1; pll2 = l2; pll3 = l3 })))))))
+    (holds-known (LegalPlls q c) (λ a. a ≡ askedOf q 0) (forSystemClock (needsPll1 q) (systemOf q) (pll1Asked q)) _ (asked-first q)
+    (λ asked1 is. holds-next (LegalPlls q c) (sourced q) _
+    (holds-known (LegalPlls q c) (LegalPll (c .odd1) (sourceOf q) asked1) (pllOf (c .odd1) (sourceOf q) asked1) _ (pll-legal (c .odd1) (sourceOf q) asked1)
+    (λ x1 l1. holds-known (LegalPlls q c) (LegalPll (c .odd2) (sourceOf q) (pll2Asked q)) (pllOf (c .odd2) (sourceOf q) (pll2Asked q)) _ (pll-legal (c .odd2) (sourceOf q) (pll2Asked q))
+    (λ x2 l2. holds-known (LegalPlls q c) (LegalPll (c .odd3) (sourceOf q) (askedOf q 2)) (thirdOf q c) _ (third-legal q c)
+    (λ x3 l3. record { pll1 = subst (λ (a : PllRequest). LegalPll (c .odd1) (sourceOf q) a x1) is l1; pll2 = l2; pll3 = l3 })))))))
 
 chosen-legal : (q : Request) (c : ChipState) → Holds (LegalPlan q c) (chosenPlan q c)
 unfolding chosenPlan planWith
@@ -44,12 +55,12 @@ chosen-legal q c =
     (λ l h. holds-next (LegalPlan q c) (hsiReady c) _
     (holds-then (LegalPlan q c) (busesOf q (systemFrom q l)) _
     (λ b. holds-then (LegalPlan q c) (mcosOf q l (systemFrom q l)) _
-    (λ m. record { pll1 = h .pll1; pll2 = h .pll2; pll3 = h .pll3 }))))
+    (λ m. record { pll1 = h .pll1; pll2 = h .pll2; pll3 = h .pll3; flash = flash-asked (b .ahb .clock) (c .scale) }))))
 
 legal-of : (q : Request) (c : ChipState) (x : Result Plan) → Holds (LegalPlan q c) x → answered x .answer ≡ Accepted → LegalPlan q c (answered x .plan)
 legal-of q c (refused n) h e = absurd (let z : _≡_ {A = ℕ} 0 1 = cc in omega arith)
 legal-of q c (ok p) h e = h
 
-pub plan-legal : (q : Request) (c : ChipState) → planOf q c .answer ≡ Accepted → LegalPlan q c (planOf q c .plan)
-unfolding planOf
+pub plan-legal : (q : Request) (c : ChipState) → answerTo q c .answer ≡ Accepted → LegalPlan q c (answerTo q c .plan)
+unfolding answerTo
 plan-legal q c e = legal-of q c (chosenPlan q c) (chosen-legal q c) e

@@ -1,5 +1,4 @@
 -- Every path that the tree gives, from any bank, has no divisor of 0, so the laws of paths hold of it.
--- Assumes nothing.
 use mathlib.Core.Path.{_≡_, refl, sym, _∙_, ap, subst}
 use mathlib.Core.Bool.{Bool, true, false, cond}
 use mathlib.Core.List.{List, [], _∷_}

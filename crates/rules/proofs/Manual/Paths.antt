@@ -1,11 +1,11 @@
 -- Laws of paths, once for every path: any oscillator, M, N and list of divisors, all at least 1.
--- Assumes nothing.
 use mathlib.Core.Path.{_≡_, refl, sym, _∙_, ap, subst}
 use mathlib.Core.Logic.{_≢_}
 use mathlib.Core.List.{List, [], _∷_, _++_}
 use Prim.Native.Nat.{ℕ, zero, suc, _+_, _-_, _*_, _/_, _%_, _≤_, _<_}
 use native.Mathlib.Nat.{div-one, div-div-eq-div-mul, div-add-mod', mod-lt, div-mul-le-self, mul-le-mul-right, mul-lt-mul-of-pos-right, le-of-mul-le-mul-right, mul-assoc, mul-comm, mul-right-comm, mul-one, le-trans, lt-of-le-of-lt, le-of-lt}
 use native.Mathlib.Omega.{arith}
+use Rattle.laws.proofs.Numbers.{mul-pos, below, above, no-loss, no-rest, turn}
 use Rattle.rules.specs.Manual.Path.{Multiplier, whole, part, Path, direct, through, product, num, den, floors, floored, Evenly, NoRemainder, Near, extend, Readings}
 
 -- ---- divisors of at least 1
@@ -21,25 +21,9 @@ abbrev pub Sound : Path → Type 0
 Sound (direct h ds) = Positive ds
 Sound (through j h m x ds) = (1 ≤ m) × Multiplies x × Positive ds
 
-mul-pos : (a b : ℕ) → 1 ≤ a → 1 ≤ b → 1 ≤ a * b
-mul-pos a b h k = le-trans h (subst (λ (x : ℕ). x ≤ a * b) (mul-one a) (native.Mathlib.Nat.mul-le-mul-left a k))
-
 pub product-pos : (ds : List ℕ) → Positive ds → 1 ≤ product ds
 product-pos [] h = omega arith
 product-pos (d ∷ ds) h = mul-pos d (product ds) (h .0) (product-pos ds (h .1))
-
--- ---- one division
-below : (n m : ℕ) → n / m * m ≤ n
-below n m = div-mul-le-self n m
-
-above : (n m : ℕ) → 1 ≤ m → n < n / m * m + m
-above n m h = omega (arith, div-add-mod' n m, mod-lt n h)
-
-no-loss : (n m : ℕ) → n % m ≡ 0 → n / m * m ≡ n
-no-loss n m h = omega (arith, div-add-mod' n m)
-
-no-rest : (n m : ℕ) → n / m * m ≡ n → n % m ≡ 0
-no-rest n m h = omega (arith, div-add-mod' n m)
 
 -- ---- the nested floors are one floor
 pub floors-once : (x : ℕ) (ds : List ℕ) → floors x ds ≡ x / product ds
@@ -71,10 +55,6 @@ floors-below x ds = rw (floors-once x ds) (below x (product ds))
 
 pub floors-above : (x : ℕ) (ds : List ℕ) → Positive ds → x < floors x ds * product ds + product ds
 floors-above x ds h = rw (floors-once x ds) (above x (product ds) (product-pos ds h))
-
--- a product with d moved to the end
-turn : (a b d : ℕ) → a * (d * b) ≡ a * b * d
-turn a b d = ap (λ (y : ℕ). a * y) (mul-comm d b) ∙ sym (mul-assoc a b d)
 
 pub evenly-equal : (x : ℕ) (ds : List ℕ) → Evenly x ds → floors x ds * product ds ≡ x
 evenly-equal x [] h = mul-one x

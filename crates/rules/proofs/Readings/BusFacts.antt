@@ -1,5 +1,4 @@
 -- The buses, the timers, the peripheral clock and the MCOs that the rules choose: divisors of at least 1, and clocks that are floors.
--- Assumes nothing.
 use mathlib.Core.Path.{_≡_, refl, sym, _∙_, ap, subst}
 use mathlib.Core.Bool.{Bool, true, false, cond, not, _&&_, _||_}
 use Prim.Native.Nat.{ℕ, _+_, _*_, _/_, _≤_, _<_}
@@ -14,7 +13,8 @@ use Rattle.rules.specs.Document01.Hertz.{ratioOf, hertzOr, notZero}
 use Rattle.rules.specs.Document01.Buses.{Selected, csiOrHsi, peripheralOf, hpreOf, ppreOf, Bus, hpreFor, ahbOf, ppreFor, apbOf, timerOf}
 use Rattle.rules.specs.Document01.Mco.{Mco, mcoOf}
 use Rattle.rules.proofs.Manual.Chains.{timerHertz}
-use Rattle.rules.proofs.Readings.Steps.{tested-ok, and-left, either}
+use Rattle.rules.proofs.Document01.Results.{tested-ok}
+use Rattle.laws.proofs.Tests.{and-left, either}
 
 -- ---- the divisors that there are
 hpre-pos : (ratio : ℕ) → 1 ≤ hpreOf ratio
@@ -69,7 +69,7 @@ pub data GoodPeripheral (hse : Hertz) (s : Selected) : Type 0 where
   atHse : s .sel ≡ 2 → hse ≡ Hz (s .clock) → GoodPeripheral hse s
 
 other-good : (h : ℕ) (hse : Hertz) → GoodPeripheral hse (csiOrHsi h)
-other-good h hse = either (GoodPeripheral hse) (eqb h 4000000) _ _ (atCsi refl refl) (atHsi refl refl)
+other-good h hse = either (GoodPeripheral hse) (eqb h 4_000_000) _ _ (atCsi refl refl) (atHsi refl refl)
 
 pub peripheral-good : (requested hse : Hertz) → GoodPeripheral hse (peripheralOf requested hse)
 unfolding peripheralOf

@@ -1,5 +1,4 @@
 -- Every clock covered, from the oscillator down: its chain in the bank that the whole list leaves ends with the hertz reported.
--- Assumes nothing.
 use mathlib.Core.Path.{_≡_, refl, sym, _∙_, ap, subst}
 use mathlib.Core.Logic.{_≢_}
 use mathlib.Core.Bool.{Bool, true, false, cond, not, _||_}
@@ -33,10 +32,11 @@ use Rattle.rules.specs.Manual.Path.{PllName, pll1, pll2, pll3, Via, noPl
 use Rattle.rules.specs.Manual.Tree
 use Rattle.rules.specs.Manual.Tree.{Oscillator, off, runs, Chain, none, along, Output, P, Q, R, Clock, sys, hclk, pclk1, pclk2, pclk3, timx, timy, per, hsi, csi, hsi48, lsi, hse, mco1, mco2, output, number, divider, enable, word, pllWord, fromOscillator, switched, gated, over, vcoBy, timerBy, pathOf}
 use Rattle.rules.proofs.Manual.Chains.{Gives, gives-oscillator, gives-over, gives-vco, gives-timer, gives-readings, timerHertz, Comes, none-comes, comes-oscillator, comes-over, comes-gated, comes-vco, comes-timer}
-use Rattle.rules.specs.Demands.Readings.{settingOf, pllHertz, reported, sysVia, mco1Via, mco2Via, viaOf, StartedInteger, Steady, Covered, fedBy, TreeReads, TwoReadings}
+use Rattle.rules.specs.Demands.Report.{pllClocks, reported, outputOf, hertzOf}
+use Rattle.rules.specs.Demands.Readings.{sysVia, mco1Via, mco2Via, viaOf, started, steady, Covered, fedBy, TreeReads, TwoReadings}
 use Rattle.rules.proofs.Readings.Own.{dividerWord, enableBit, fracenBit}
 use Rattle.rules.proofs.Readings.Words.{bankOf, srcWord, PllWords, pll-words, CoreWords, core-words, hseBit}
-use Rattle.rules.proofs.Readings.Consistent.{GoodPll, System, source, pll1P, Peripheral, fromHsi, fromCsi, fromHse, Divided, Consistent}
+use Rattle.rules.proofs.Readings.Consistent.{StartedInteger, Steady, steady-is, settingOf, pllHertz, GoodPll, System, source, pll1P, Peripheral, fromHsi, fromCsi, fromHse, Divided, Consistent}
 
 -- ---- small facts
 less-more : (n : ℕ) → 1 ≤ n → n - 1 + 1 ≡ n
@@ -49,6 +49,20 @@ number-below : (j : PllName) → number j < 3
 number-below pll1 = omega arith
 number-below pll2 = omega arith
 number-below pll3 = omega arith
+
+-- what is reported of an output, by its PLL
+report-pll : (x : Pll) (o : Output) → outputOf (pllClocks x) o ≡ pllHertz o x
+report-pll Idle P = refl
+report-pll Idle Q = refl
+report-pll Idle R = refl
+report-pll (Runs s) P = refl
+report-pll (Runs s) Q = refl
+report-pll (Runs s) R = refl
+
+pub report-output : (p : Plan) (j : PllName) (o : Output) → hertzOf (reported p) (output j o) ≡ pllHertz o (pllIn p (number j))
+report-output p pll1 o = report-pll (pllIn p 0) o
+report-output p pll2 o = report-pll (pllIn p 1) o
+report-output p pll3 o = report-pll (pllIn p 2) o
 
 -- an output that is reported has settings
 reported-setting : (o : PllOutput) (h : ℕ) → clockOf o ≡ Hz h → (d : ℕ) × (o ≡ On d h)
@@ -128,7 +142,7 @@ module _ (q : Request) (p : Plan) (good : Consistent q p) where
   -- an output that is reported, of a PLL that is started and in Integer strategy
   output-gives : (j : PllName) (o : Output) (h : ℕ) → StartedInteger q p j → pllHertz o (pllIn p (number j)) ≡ Hz h → Gives (Tree.outputOf b fed j o) h
   output-gives j o h st e =
-      let runs-p = reported-runs P (pllIn p (number j)) (st .hertz) (st .started) in
+      let runs-p = reported-runs P (pllIn p (number j)) (st .hertz) (sym (report-output p j P) ∙ st .started) in
       let s : PllSettings = runs-p .0 in
       let is : pllIn p (number j) ≡ Runs s = runs-p .1 in
       let on = reported-setting (s .p) (st .hertz) (runs-p .2) in
@@ -234,7 +248,7 @@ module _ (q : Request) (p : Plan) (good : Consistent q p) where
   reads : (h r : ℕ) → Hz h ≡ Hz r → {c : Chain} → Gives c h → Gives c r
   reads h r e g = let s : r ≡ h = cc in same s g
 
-  clock-gives : (k : Clock) (r : ℕ) → reported p k ≡ Hz r → Steady q p (viaOf q p k) → Gives (pathOf b fed k) r
+  clock-gives : (k : Clock) (r : ℕ) → hertzOf (reported p) k ≡ Hz r → Steady q p (viaOf q p k) → Gives (pathOf b fed k) r
   unfolding pathOf
   clock-gives sys r e st = reads _ r e (sys-gives st)
   clock-gives hclk r e st = reads _ r e (ahb-gives st)
@@ -251,7 +265,7 @@ module _ (q : Request) (p : Plan) (good : Consistent q p) where
   clock-gives hse r e st = rw hse-is (fed-gives (q .hse) r (sym (good .hse) ∙ e))
   clock-gives mco1 r e st = mco1-gives r e st
   clock-gives mco2 r e st = mco2-gives r e st
-  clock-gives (output j o) r e st = output-gives j o r st e
+  clock-gives (output j o) r e st = output-gives j o r st (sym (report-output p j o) ∙ e)
 
   -- ---- the PLL on each path
   output-comes : (j : PllName) (o : Output) → Comes (by j) (Tree.outputOf b fed j o)
@@ -332,15 +346,15 @@ module _ (q : Request) (p : Plan) (good : Consistent q p) where
   clock-comes (output j o) = output-comes j o
 
   -- ---- the claim
-  one-reads : (k : Clock) (r : ℕ) → Covered q p k r → TreeReads b fed k r
+  one-reads : (k : Clock) (r : ℕ) → Covered q p (started p) k r → TreeReads b fed k r
   one-reads k r covered =
-      let g = clock-gives k r (covered .report) (covered .steady) in
+      let g = clock-gives k r (covered .report) (steady-is q p (viaOf q p k) (covered .steady-path)) in
       record { path = g .path; found = g .is; readings = gives-readings g }
 
   pub two-readings : TwoReadings q p (bankOf p)
   two-readings = record { reads = one-reads; via = λ k. clock-comes k .on }
 
--- every clock reported whose path has no PLL, or a PLL that is started and in Integer strategy, is covered
-pub covers : (q : Request) (p : Plan) (b : List ℕ) → TwoReadings q p b → (k : Clock) (r : ℕ) (path : Path) → reported p k ≡ Hz r → pathOf b (fedBy (q .hse)) k ≡ along path
-    → Steady q p (pllOn path) → Covered q p k r
-covers q p b t k r path e f st = record { report = e; steady = subst (λ (v : Via). Steady q p v) (sym (t .via k path f)) st }
+-- every clock reported whose path, in the bank, has no PLL or one that is started and in Integer strategy is covered
+pub covers : (q : Request) (p : Plan) (b : List ℕ) → TwoReadings q p b → (k : Clock) (r : ℕ) (path : Path) → hertzOf (reported p) k ≡ Hz r → pathOf b (fedBy (q .hse)) k ≡ along path
+    → steady q (started p) (pllOn path) ≡ true → Covered q p (started p) k r
+covers q p b t k r path e f st = record { report = e; steady-path = subst (λ (v : Via). steady q (started p) v ≡ true) (sym (t .via k path f)) st }

@@ -1,12 +1,13 @@
 -- What the rules settle of a plan and its clocks need: dividers of at least 1, and hertz that are the floors of the numbers chosen.
-use mathlib.Core.Path.{_≡_}
+use mathlib.Core.Path.{_≡_, refl, sym}
 use mathlib.Core.Bool.{Bool, true, false, not, _||_}
 use Prim.Native.Nat.{ℕ, _+_, _*_, _/_, _≤_, _<_}
 use Rattle.types.specs.declared.Hertz.{Hertz}
 use Rattle.types.specs.declared.Hertz.the-variants.{Unset, Hz}
 use Rattle.types.specs.declared.Strategy.{Strategy}
-use Rattle.types.specs.declared.Strategy.the-variants.{Integer}
+use Rattle.types.specs.declared.Strategy.the-variants.{Integer, Fractional}
 use Rattle.types.specs.declared.Request.{Request}
+use Rattle.types.specs.declared.PllOutput.{PllOutput}
 use Rattle.types.specs.declared.PllOutput.the-variants.{Off, On}
 use Rattle.types.specs.declared.Fraction.the-variants.{Whole, Part}
 use Rattle.types.specs.declared.PllSettings.{PllSettings}
@@ -16,13 +17,51 @@ use Rattle.types.specs.declared.Plan.{Plan}
 use Rattle.rules.specs.Document01.Result.{Result, ok}
 use Rattle.rules.specs.Document01.Hertz.{isSet}
 use Rattle.rules.specs.Document01.Request.{pllAt, sourceOf, fromHse1, fromHse2}
-use Rattle.rules.specs.Document01.OnePll.{pClock, qClock}
+use Rattle.rules.specs.Document01.OnePll.{clockOf, pClock, qClock}
 use Rattle.rules.specs.Document01.Mco.{mco1Input, mco2Input, mco1Code, mco2Code}
 use Rattle.rules.specs.Document01.Plan.{srcOf, swOf}
 use Rattle.rules.specs.Document01.Entries.{pllIn}
-use Rattle.rules.specs.Manual.Tree.{Output}
+use Rattle.rules.specs.Manual.Path.{PllName, Via, noPll, by}
+use Rattle.rules.specs.Manual.Tree.{Output, P, Q, R, output, number}
+use Rattle.rules.specs.Demands.Report.{reported, hertzOf}
+use Rattle.rules.specs.Demands.Readings.{started, isInteger, steady}
+use Rattle.laws.proofs.Tests.{never, and-left, and-right}
 use Rattle.rules.proofs.Manual.Chains.{timerHertz}
-use Rattle.rules.specs.Demands.Readings.{settingOf}
+
+-- an output's settings, and what a PLL reports of it
+abbrev pub settingOf : Output → PllSettings → PllOutput
+settingOf P s = s .p
+settingOf Q s = s .q
+settingOf R s = s .r
+
+abbrev pub pllHertz : Output → Pll → Hertz
+pllHertz o Idle = Unset
+pllHertz o (Runs s) = clockOf (settingOf o s)
+
+-- PLL j is started and in Integer strategy, as facts
+pub record StartedInteger (q : Request) (p : Plan) (j : PllName) : Type 0 where
+  pub hertz : ℕ
+  pub started : hertzOf (reported p) (output j P) ≡ Hz hertz
+  pub integer : pllAt q (number j) .strategy ≡ Integer
+
+abbrev pub Steady : Request → Plan → Via → Type 0
+Steady q p noPll = Unit {0}
+Steady q p (by j) = StartedInteger q p j
+
+-- the tests of a clock covered, as these facts
+is-integer : (s : Strategy) → isInteger s ≡ true → s ≡ Integer
+is-integer Integer t = refl
+is-integer Fractional t = absurd (never (sym t))
+
+is-set : (h : Hertz) → isSet h ≡ true → (r : ℕ) × (h ≡ Hz r)
+is-set Unset t = absurd (never (sym t))
+is-set (Hz r) t = (r, refl)
+
+pub steady-is : (q : Request) (p : Plan) (v : Via) → steady q (started p) v ≡ true → Steady q p v
+steady-is q p noPll t = tt
+steady-is q p (by j) t =
+    let on = is-set (hertzOf (reported p) (output j P)) (and-left (started p j) _ t) in
+    record { hertz = on .0; started = on .1; integer = is-integer (pllAt q (number j) .strategy) (and-right (started p j) _ t) }
 
 -- a PLL that runs, from a source of so many hertz
 pub record GoodPll (strategy : Strategy) (source : ℕ) (s : PllSettings) : Type 0 where

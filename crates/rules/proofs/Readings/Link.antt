@@ -1,5 +1,4 @@
 -- Every plan that the rules give is consistent, so both readings of every clock that it covers are as demand 3 says.
--- Assumes nothing.
 use mathlib.Core.Path.{_≡_, refl, sym, _∙_, ap, subst}
 use mathlib.Core.Bool.{Bool, true, false, cond, not, _||_}
 use mathlib.Core.List.{List, [], _∷_}
@@ -25,11 +24,11 @@ use Rattle.rules.specs.Document01.Request.{pllAt, limited, fromHse1, fro
 use Rattle.rules.specs.Document01.OnePll.{pllOf, pClock, qClock}
 use Rattle.rules.specs.Document01.Buses.{peripheralOf, ahbOf, apbOf, timerOf, Bus}
 use Rattle.rules.specs.Document01.Mco.{Mco, mco1Input, mco2Input, mcoOf}
-use Rattle.rules.specs.Document01.Plan.{Plls, thirdOf, pllsOf, hsiReady, systemFrom, Buses, busesOf, Mcos, mcosOf, srcOf, swOf, planWith, chosenPlan, answered, planOf}
+use Rattle.rules.specs.Document01.Plan.{Plls, thirdOf, pllsOf, hsiReady, systemFrom, Buses, busesOf, Mcos, mcosOf, srcOf, swOf, planWith, chosenPlan, answered, answerTo}
 use Rattle.rules.specs.Document01.Entries.{pllIn, planEntries, entriesOf}
 use Rattle.rules.specs.Document01.Bank.{applyAll, resetBank}
 use Rattle.rules.specs.Demands.Readings.{TwoReadings, Reads, BankReads}
-use Rattle.rules.proofs.Readings.Steps.{bind-ok, then-ok, tested-ok, require-ok}
+use Rattle.rules.proofs.Document01.Results.{bind-ok, then-ok, tested-ok, require-ok}
 use Rattle.rules.proofs.Readings.PllFacts.{pll-good, pll-p}
 use Rattle.rules.proofs.Readings.BusFacts.{GoodBus, ahb-good, GoodApb, apb-good, GoodPeripheral, atHsi, atCsi, atHse, peripheral-good, mco-good}
 use Rattle.rules.proofs.Readings.Words.{bankOf}
@@ -270,14 +269,14 @@ module _ (q : Request) (c : ChipState) where
       same-plan : (p k : Plan) → ok k ≡ ok p → Consistent q k → Consistent q p
       same-plan p k e g = let f : k ≡ p = cc in subst (λ (x : Plan). Consistent q x) f g
 
-  pub plan-reads : Reads q (planOf q c)
-  unfolding planOf entriesOf bankOf
+  pub plan-reads : Reads q (answerTo q c)
+  unfolding answerTo entriesOf bankOf
   plan-reads = go (chosenPlan q c) refl
     where
       go : (r : Result Plan) → chosenPlan q c ≡ r → Reads q (answered r)
       go (refused n) e a = absurd (let z : _≡_ {A = ℕ} 0 1 = cc in omega arith)
       go (ok p) e a = two-readings q p (chosen-good p e)
 
-  pub bank-reads : (b b₁ : List ℕ) → b₁ ≡ applyAll (entriesOf (planOf q c)) b → BankReads q (planOf q c) b b₁
+  pub bank-reads : (b b₁ : List ℕ) → b₁ ≡ applyAll (entriesOf (answerTo q c)) b → BankReads q (answerTo q c) b b₁
   bank-reads b b₁ e a r =
-      subst (λ (x : List ℕ). TwoReadings q (planOf q c .plan) x) (sym (e ∙ ap (applyAll (entriesOf (planOf q c))) r)) (plan-reads a)
+      subst (λ (x : List ℕ). TwoReadings q (answerTo q c .plan) x) (sym (e ∙ ap (applyAll (entriesOf (answerTo q c))) r)) (plan-reads a)

@@ -1,5 +1,4 @@
 -- What PLL i's own list leaves in PLL i's fields, over fields that were 0. Once, with i as a parameter.
--- Assumes nothing.
 use mathlib.Core.Path.{_≡_, refl, sym, _∙_, ap}
 use mathlib.Core.Logic.{_≢_}
 use mathlib.Core.List.{List, [], _∷_}
@@ -13,8 +12,8 @@ use Rattle.types.specs.declared.PllSettings.{PllSettings}
 use Rattle.rules.specs.Document01.Entries.{outputEntries, fractionEntries, baseEntries, settingEntries}
 use Rattle.rules.proofs.Document01.Last.{valAll, avoid, put-same, put-other}
 use Rattle.rules.specs.Manual.Tree.{Output, P, Q, R, divider, enable}
-use Rattle.rules.specs.Demands.Readings.{settingOf}
 use Rattle.rules.proofs.Readings.Segments.{output-keeps, fraction-keeps, setting-val}
+use Rattle.rules.proofs.Readings.Consistent.{settingOf}
 
 -- ---- the words of an output and of a fraction
 abbrev pub dividerWord : PllOutput → ℕ

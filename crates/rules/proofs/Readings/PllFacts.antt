@@ -1,5 +1,4 @@
 -- A PLL that the rules set up: M, N and the dividers are at least 1, and in Integer strategy its clocks are floors.
--- Assumes nothing.
 use mathlib.Core.Path.{_≡_, refl, sym, _∙_, ap, subst}
 use mathlib.Core.Bool.{Bool, true, false, cond, not, _&&_, _||_}
 use mathlib.Core.List.{List, [], _∷_, _++_}
@@ -30,9 +29,9 @@ use Rattle.rules.specs.Document01.Result.{Result, refused, ok, _>>=_, _>
 use Rattle.rules.specs.Document01.Hertz.{isSet, notZero}
 use Rattle.rules.specs.Document01.OnePll.{wanted, noneZero, countedP, counted, countedOutputs, least, largest, Range, medium, wide, rangeOf, admissible, fractionOf, vcoBy, outputOf, dividerP, allowedP, spanned, rangeFor, targetFor, dividedBy, settingsOf, settled, runs, running, pllOf, clockOf, pClock, firstOf}
 use Rattle.rules.specs.Manual.Tree.{Output, P, Q, R}
-use Rattle.rules.specs.Demands.Readings.{settingOf}
-use Rattle.rules.proofs.Readings.Steps.{bind-ok, then-ok, tested-ok, require-ok, and-left, and-right, either}
-use Rattle.rules.proofs.Readings.Consistent.{GoodPll}
+use Rattle.rules.proofs.Document01.Results.{bind-ok, then-ok, tested-ok, require-ok}
+use Rattle.laws.proofs.Tests.{and-left, and-right, either}
+use Rattle.rules.proofs.Readings.Consistent.{settingOf, GoodPll}
 
 -- ---- the least and the largest output
 abbrev askedOf : Output → PllRequest → Hertz
@@ -111,13 +110,13 @@ asked-in R a l s = s .r-in
 -- ---- the range
 record GoodRange (top : ℕ) (g : Range) : Type 0 where
   over : top < g .end
-  limit : g .end ≤ 560000000
-  bottom : 128000000 ≤ g .start
+  limit : g .end ≤ 560_000_000
+  bottom : 128_000_000 ≤ g .start
 
-range-good : (top : ℕ) → top < 560000000 → GoodRange top (rangeOf top)
-range-good top h = go (ltb top 420000000) refl
+range-good : (top : ℕ) → top < 560_000_000 → GoodRange top (rangeOf top)
+range-good top h = go (ltb top 420_000_000) refl
   where
-    go : (t : Bool) → ltb top 420000000 ≡ t → GoodRange top (cond t medium wide)
+    go : (t : Bool) → ltb top 420_000_000 ≡ t → GoodRange top (cond t medium wide)
     go true e = record { over = ltb-true _ _ e; limit = omega arith; bottom = omega arith }
     go false e = record { over = h; limit = omega arith; bottom = omega arith }
 
@@ -173,7 +172,7 @@ settled-ok odd a source g target m s c e =
 
 -- a PLL that was settled is good
 settled-good : (odd : Bool) (a : PllRequest) (source : ℕ) (s : PllSettings) → wanted a ≡ true → noneZero a ≡ true
-    → largest (countedOutputs odd a) / 128 ≤ least (countedOutputs odd a) → largest (countedOutputs odd a) < 560000000
+    → largest (countedOutputs odd a) / 128 ≤ least (countedOutputs odd a) → largest (countedOutputs odd a) < 560_000_000
     → rangeFor odd a .start ≤ targetFor odd a → Settled a source (rangeFor odd a) (targetFor odd a) s → GoodPll (a .strategy) source s
 settled-good odd a source s w z far top start t =
     let l : List ℕ = countedOutputs odd a in
@@ -210,7 +209,7 @@ runs-good odd source a s w e =
     let e₁ = then-ok (spanned odd a) (dividedBy source g target >>= λ m. settled odd a g target m (source / m) (target / (source / m))) s e in
     let t₁ = tested-ok (noneZero a) OutputZero _ (e₁ .0) (e₁ .1) in
     let t₂ = tested-ok (leb (largest l / 128) (least l)) OutputsTooFarApart _ (e₁ .0) (t₁ .1) in
-    let t₃ = require-ok (ltb (largest l) 560000000) OutputTooHigh (e₁ .0) (t₂ .1) in
+    let t₃ = require-ok (ltb (largest l) 560_000_000) OutputTooHigh (e₁ .0) (t₂ .1) in
     let e₂ = bind-ok (dividedBy source g target) (λ m. settled odd a g target m (source / m) (target / (source / m))) s (e₁ .2) in
     let t₄ = tested-ok (leb (g .start) target && leb target (g .end)) TargetOutside _ (e₂ .0) (e₂ .1) in
     settled-good odd a source s w (t₁ .0) (leb-true _ _ (t₂ .0)) (ltb-true _ _ t₃) (leb-true _ _ (and-left _ _ (t₄ .0)))

@@ -1,5 +1,4 @@
 -- The whole list of a plan, segment by segment: which segments leave a field alone.
--- Assumes nothing.
 use mathlib.Core.Path.{_≡_, refl, sym, _∙_, ap}
 use mathlib.Core.Logic.{_≢_}
 use mathlib.Core.Bool.{Bool, true, false}

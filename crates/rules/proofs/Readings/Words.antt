@@ -1,5 +1,4 @@
 -- The words that the tree reads, in the bank that a plan's whole list leaves of a bank at reset values.
--- Assumes nothing.
 use mathlib.Core.Path.{_≡_, refl, sym, _∙_, ap}
 use mathlib.Core.Logic.{_≢_}
 use mathlib.Core.Bool.{Bool, true, false, cond}
@@ -20,9 +19,9 @@ use Rattle.rules.specs.Document01.Entries.{settingEntries, setupEntries,
 use Rattle.rules.specs.Document01.Bank.{applyAll, resetBank, resetRest}
 use Rattle.rules.proofs.Document01.Last.{valAll, at-all, put-same}
 use Rattle.rules.specs.Manual.Tree.{Output, word, divider, enable}
-use Rattle.rules.specs.Demands.Readings.{settingOf}
 use Rattle.rules.proofs.Readings.Segments.{own-only, none-own, other-pll, other-field, setup-keeps, start-keeps, source-keeps, hse-keeps, clock-keeps, bus-keeps, setups, starts, whole-val}
 use Rattle.rules.proofs.Readings.Own.{dividerWord, enableBit, fracenBit, own-m, own-n, own-fracen, own-divider, own-enable}
+use Rattle.rules.proofs.Readings.Consistent.{settingOf}
 
 unfoldable pub bankOf : Plan → List ℕ
 bankOf p = applyAll (planEntries p) resetBank

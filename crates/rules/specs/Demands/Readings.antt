@@ -1,64 +1,34 @@
 -- Demand 3, whole: the hertz that a plan reports, and the exact fractions that the clock tree gives from the bank its list leaves.
 use mathlib.Core.Path.{_≡_}
-use mathlib.Core.Bool.{cond}
+use mathlib.Core.Bool.{Bool, true, false, cond, _&&_}
 use mathlib.Core.List.{List}
 use Prim.Native.Nat.{ℕ}
 use lib.Dec.{eqb}
 use Rattle.types.specs.declared.Hertz.{Hertz}
 use Rattle.types.specs.declared.Hertz.the-variants.{Unset, Hz}
 use Rattle.types.specs.declared.Strategy.{Strategy}
-use Rattle.types.specs.declared.Strategy.the-variants.{Integer}
+use Rattle.types.specs.declared.Strategy.the-variants.{Integer, Fractional}
 use Rattle.types.specs.declared.Mco1Source.{Mco1Source}
 use Rattle.types.specs.declared.Mco2Source.{Mco2Source}
 use Rattle.types.specs.declared.Request.{Request}
-use Rattle.types.specs.declared.PllOutput.{PllOutput}
-use Rattle.types.specs.declared.PllSettings.{PllSettings}
-use Rattle.types.specs.declared.Pll.{Pll}
-use Rattle.types.specs.declared.Pll.the-variants.{Idle, Runs}
 use Rattle.types.specs.declared.Plan.{Plan}
 use Rattle.types.specs.declared.Answer.{Answer}
 use Rattle.types.specs.declared.Answer.the-variants.{Accepted}
 use Rattle.types.specs.declared.Planned.{Planned}
+use Rattle.rules.specs.Document01.Hertz.{isSet}
 use Rattle.rules.specs.Document01.Request.{pllAt}
-use Rattle.rules.specs.Document01.OnePll.{clockOf}
-use Rattle.rules.specs.Document01.Entries.{pllIn, entriesOf}
+use Rattle.rules.specs.Document01.Entries.{entriesOf}
 use Rattle.rules.specs.Document01.Bank.{applyAll, resetBank}
+use Rattle.rules.specs.Demands.Report.{reported, hertzOf}
 use Rattle.rules.specs.Manual.Path.{PllName, pll1, pll2, pll3, Via, noPll, by, Path, pllOn, Readings}
 use Rattle.rules.specs.Manual.Tree.{Oscillator, off, runs, Chain, along, Output, P, Q, R, Clock, sys, hclk, pclk1, pclk2, pclk3, timx, timy, per, hsi, csi, hsi48, lsi, hse, mco1, mco2, output, number, pathOf}
-
--- ---- the hertz reported: the same clocks as CoreClocks has, save LSE and audio, which have no path
-abbrev pub settingOf : Output → PllSettings → PllOutput
-settingOf P s = s .p
-settingOf Q s = s .q
-settingOf R s = s .r
-
-abbrev pub pllHertz : Output → Pll → Hertz
-pllHertz o Idle = Unset
-pllHertz o (Runs s) = clockOf (settingOf o s)
-
-abbrev pub reported : Plan → Clock → Hertz
-reported p sys = Hz (p .sys)
-reported p hclk = Hz (p .hclk)
-reported p pclk1 = Hz (p .pclk1)
-reported p pclk2 = Hz (p .pclk2)
-reported p pclk3 = Hz (p .pclk3)
-reported p timx = Hz (p .timx)
-reported p timy = Hz (p .timy)
-reported p per = Hz (p .per)
-reported p hsi = Hz (p .hsi)
-reported p csi = Hz (p .csi)
-reported p hsi48 = Hz (p .hsi48)
-reported p lsi = Hz (p .lsi)
-reported p hse = p .hse
-reported p mco1 = p .mco1
-reported p mco2 = p .mco2
-reported p (output j o) = pllHertz o (pllIn p (number j))
 
 -- ---- the clocks covered, by the request and the plan; nothing here looks at a bank
 -- the system clock comes from PLL1 where the plan says SW 3
 abbrev pub sysVia : Plan → Via
 sysVia p = cond (eqb (p .sw) 3) (by pll1) noPll
 
+-- MCO1's source comes through PLL1 where it is PLL1 Q
 abbrev pub mco1Via : Mco1Source → Via
 mco1Via Mco1Source.Hsi = noPll
 mco1Via Mco1Source.Lse = noPll
@@ -66,6 +36,7 @@ mco1Via Mco1Source.Hse = noPll
 mco1Via Mco1Source.Pll1Q = by pll1
 mco1Via Mco1Source.Hsi48 = noPll
 
+-- MCO2's: by the system clock, PLL2 or PLL1
 abbrev pub mco2Via : Mco2Source → Plan → Via
 mco2Via Mco2Source.Sysclk p = sysVia p
 mco2Via Mco2Source.Pll2P p = by pll2
@@ -74,6 +45,7 @@ mco2Via Mco2Source.Pll1P p = by pll1
 mco2Via Mco2Source.Csi p = noPll
 mco2Via Mco2Source.Lsi p = noPll
 
+-- each clock
 abbrev pub viaOf : Request → Plan → Clock → Via
 viaOf q p sys = sysVia p
 viaOf q p hclk = sysVia p
@@ -92,20 +64,24 @@ viaOf q p mco1 = mco1Via (q .mco1source)
 viaOf q p mco2 = mco2Via (q .mco2source) p
 viaOf q p (output j o) = by j
 
--- PLL j is started, since P is reported, and requested in Integer strategy
-pub record StartedInteger (q : Request) (p : Plan) (j : PllName) : Type 0 where
-  pub hertz : ℕ
-  pub started : reported p (output j P) ≡ Hz hertz
-  pub integer : pllAt q (number j) .strategy ≡ Integer
+-- PLL j is started: it has P (document 01, Register entries)
+abbrev pub started : Plan → PllName → Bool
+started p j = isSet (hertzOf (reported p) (output j P))
 
-abbrev pub Steady : Request → Plan → Via → Type 0
-Steady q p noPll = Unit {0}
-Steady q p (by j) = StartedInteger q p j
+-- Integer strategy
+abbrev pub isInteger : Strategy → Bool
+isInteger Integer = true
+isInteger Fractional = false
 
--- clock k is reported, as r hertz, and comes through no PLL or through one that is started and in Integer strategy
-pub record Covered (q : Request) (p : Plan) (k : Clock) (r : ℕ) : Type 0 where
-  pub report : reported p k ≡ Hz r
-  pub steady : Steady q p (viaOf q p k)
+-- no PLL, or one that is started and requested in Integer strategy
+abbrev pub steady : Request → (started : PllName → Bool) → Via → Bool
+steady q started noPll = true
+steady q started (by j) = started j && isInteger (pllAt q (number j) .strategy)
+
+-- clock k is reported, as r hertz, and its path has no PLL, or one that is started and in Integer strategy
+pub record Covered (q : Request) (p : Plan) (started : PllName → Bool) (k : Clock) (r : ℕ) : Type 0 where
+  pub report : hertzOf (reported p) k ≡ Hz r
+  pub steady-path : steady q started (viaOf q p k) ≡ true
 
 -- ---- the claim
 -- the HSE hertz that the tree is fed
@@ -121,7 +97,7 @@ pub record TreeReads (b : List ℕ) (fed : Oscillator) (k : Clock) (r : ℕ) : T
 
 -- so for every clock that the plan covers, in the bank b that its whole list left
 pub record TwoReadings (q : Request) (p : Plan) (b : List ℕ) : Type 0 where
-  pub reads : (k : Clock) (r : ℕ) → Covered q p k r → TreeReads b (fedBy (q .hse)) k r
+  pub reads : (k : Clock) (r : ℕ) → Covered q p (started p) k r → TreeReads b (fedBy (q .hse)) k r
   -- and the PLL that a clock was taken to come through is the one on its path, covered or not
   pub via : (k : Clock) (path : Path) → pathOf b (fedBy (q .hse)) k ≡ along path → viaOf q p k ≡ pllOn path
 

@@ -15,11 +15,11 @@ pub record Selected : Type 0 where
 
 -- step 5: CSI if 4,000,000, else HSI
 abbrev pub csiOrHsi : ℕ → Selected
-csiOrHsi h = cond (eqb h 4000000) (record { sel = 1; clock = 4000000 }) (record { sel = 0; clock = 32000000 })
+csiOrHsi h = cond (eqb h 4_000_000) (record { sel = 1; clock = 4_000_000 }) (record { sel = 0; clock = 32_000_000 })
 
 -- step 5: HSE if requested equal to it
 unfoldable pub peripheralOf : (requested hse : Hertz) → Selected
-peripheralOf Unset hse = record { sel = 0; clock = 32000000 }
+peripheralOf Unset hse = record { sel = 0; clock = 32_000_000 }
 peripheralOf (Hz h) Unset = csiOrHsi h
 peripheralOf (Hz h) (Hz e) = cond (eqb h e) (record { sel = 2; clock = h }) (csiOrHsi h)
 

@@ -47,10 +47,12 @@ settingEntries k s =
     ++ (outputEntries (ofPll k Fields.Q) (ofPll k Fields.QEN) (s .q)
     ++ outputEntries (ofPll k Fields.R) (ofPll k Fields.REN) (s .r))))
 
+-- a PLL that is skipped adds none
 abbrev pub setupEntries : (k : ℕ) → Pll → List Entry
 setupEntries k Idle = []
 setupEntries k (Runs s) = settingEntries k s
 
+-- PLL k of a plan, from 0
 abbrev pub pllIn : Plan → ℕ → Pll
 pllIn p k = getD (p .plls) k (record { pll = Idle }) .pll
 
@@ -67,6 +69,7 @@ clockEntries p =
     ∷ Set Fields.HSI48ON 1 ∷ Wait Fields.HSI48RDY 1
     ∷ Set4 Fields.MCO1SEL (p .mco1sel) Fields.MCO1PRE (p .mco1pre) Fields.MCO2SEL (p .mco2sel) Fields.MCO2PRE (p .mco2pre) ∷ []
 
+-- HSEBYP: 1 with bypass
 abbrev pub bit : Bool → ℕ
 bit true = 1
 bit false = 0
@@ -86,6 +89,7 @@ abbrev pub outputStart : (k : ℕ) → PllOutput → List Entry
 outputStart k Off = []
 outputStart k (On d h) = Set (ofPll k Fields.ON) 1 ∷ Wait (ofPll k Fields.RDY) 1 ∷ []
 
+-- PLL k, where it runs
 abbrev pub startEntries : (k : ℕ) → Pll → List Entry
 startEntries k Idle = []
 startEntries k (Runs s) = outputStart k (s .p)
@@ -120,5 +124,6 @@ abbrev pub answerEntries : Answer → Plan → List Entry
 answerEntries Accepted p = planEntries p
 answerEntries (Refused n) p = []
 
+-- the list of an answer
 unfoldable pub entriesOf : Planned → List Entry
 entriesOf x = answerEntries (x .answer) (x .plan)

@@ -9,6 +9,7 @@ use Rattle.types.specs.declared.Hertz.the-variants.{Unset, Hz}
 unfoldable pub ratioOf : (clock wanted : ℕ) → ℕ
 ratioOf clock wanted = (clock + (wanted - 1)) / wanted
 
+-- hertz that are set
 abbrev pub isSet : Hertz → Bool
 isSet Unset = false
 isSet (Hz h) = true
@@ -18,6 +19,7 @@ abbrev pub hertzOr : Hertz → ℕ → ℕ
 hertzOr Unset d = d
 hertzOr (Hz h) d = h
 
+-- a clock that is requested, filled from another if unset (step 2)
 abbrev pub orElse : Hertz → Hertz → Hertz
 orElse Unset other = other
 orElse (Hz h) other = Hz h

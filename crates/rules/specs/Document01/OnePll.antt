@@ -44,6 +44,7 @@ abbrev pub counted : (ℕ → ℕ) → Hertz → List ℕ
 counted f Unset = []
 counted f (Hz h) = f h ∷ []
 
+-- all that are requested, P first
 abbrev pub countedOutputs : (odd : Bool) → PllRequest → List ℕ
 countedOutputs odd a = counted (countedP odd) (a .p) ++ (counted (λ h. h) (a .q) ++ counted (λ h. h) (a .r))
 
@@ -52,14 +53,17 @@ abbrev pub leastFrom : ℕ → List ℕ → ℕ
 leastFrom x [] = x
 leastFrom x (y ∷ ys) = leastFrom (min x y) ys
 
+-- min
 abbrev pub least : List ℕ → ℕ
 least [] = 0
 least (x ∷ xs) = leastFrom x xs
 
+-- the largest of a number and some outputs
 abbrev pub largestFrom : ℕ → List ℕ → ℕ
 largestFrom x [] = x
 largestFrom x (y ∷ ys) = largestFrom (max x y) ys
 
+-- max
 abbrev pub largest : List ℕ → ℕ
 largest xs = largestFrom 0 xs
 
@@ -71,15 +75,17 @@ pub record Range : Type 0 where
   pub low : ℕ
   pub high : ℕ
 
+-- medium: 150,000,000–420,000,000 with reference 1–2 MHz
 abbrev pub medium : Range
-medium = record { vcosel = 1; start = 150000000; end = 420000000; low = 1000000; high = 2000000 }
+medium = record { vcosel = 1; start = 150_000_000; end = 420_000_000; low = 1_000_000; high = 2_000_000 }
 
+-- wide: 128,000,000–560,000,000 with reference 2–16 MHz
 abbrev pub wide : Range
-wide = record { vcosel = 0; start = 128000000; end = 560000000; low = 2000000; high = 16000000 }
+wide = record { vcosel = 0; start = 128_000_000; end = 560_000_000; low = 2_000_000; high = 16_000_000 }
 
 -- the first whose end is strictly above max
 abbrev pub rangeOf : ℕ → Range
-rangeOf top = cond (ltb top 420000000) medium wide
+rangeOf top = cond (ltb top 420_000_000) medium wide
 
 -- M, or refusal 11
 abbrev pub admissible : FoundM → Result ℕ
@@ -88,7 +94,7 @@ admissible (M m) = ok m
 
 -- RGE: range 1, 2, 4, 8 from a reference of 1, 2, 4, 8 MHz, as its code
 abbrev pub rgeOf : ℕ → ℕ
-rgeOf ref = cond (ltb ref 2000000) 0 (cond (ltb ref 4000000) 1 (cond (ltb ref 8000000) 2 3))
+rgeOf ref = cond (ltb ref 2_000_000) 0 (cond (ltb ref 4_000_000) 1 (cond (ltb ref 8_000_000) 2 3))
 
 -- the first requested of P, Q, R
 abbrev pub firstOf : PllRequest → ℕ
@@ -99,6 +105,7 @@ abbrev pub taken : Fracn → Result Fraction
 taken (Value f) = ok (Part f)
 taken OutOfRange = refused FracnOutside
 
+-- by the strategy
 abbrev pub fractionOf : Strategy → (ref n divider output : ℕ) → Result Fraction
 fractionOf Integer ref n divider output = ok Whole
 fractionOf Fractional ref n divider output = taken (fracnOf (float ref) (float n) (float divider) (float output))
@@ -130,11 +137,13 @@ unfoldable pub spanned : (odd : Bool) → PllRequest → Result (Unit {0})
 spanned odd a = do
   require (noneZero a) OutputZero
   require (leb (largest (countedOutputs odd a) / 128) (least (countedOutputs odd a))) OutputsTooFarApart
-  require (ltb (largest (countedOutputs odd a)) 560000000) OutputTooHigh
+  require (ltb (largest (countedOutputs odd a)) 560_000_000) OutputTooHigh
 
+-- the range of a PLL's outputs
 abbrev pub rangeFor : (odd : Bool) → PllRequest → Range
 rangeFor odd a = rangeOf (largest (countedOutputs odd a))
 
+-- the target of a PLL's outputs
 abbrev pub targetFor : (odd : Bool) → PllRequest → ℕ
 targetFor odd a = targetOf (least (countedOutputs odd a)) (largest (countedOutputs odd a)) (rangeFor odd a .end)
 
@@ -175,6 +184,7 @@ runs odd source a = do
   m ← dividedBy source (rangeFor odd a) (targetFor odd a)
   settled odd a (rangeFor odd a) (targetFor odd a) m (source / m) (targetFor odd a / (source / m))
 
+-- settings are a PLL that runs
 abbrev pub running : Result PllSettings → Result Pll
 running (refused n) = refused n
 running (ok s) = ok (Runs s)
@@ -188,14 +198,17 @@ abbrev pub clockOf : PllOutput → Hertz
 clockOf Off = Unset
 clockOf (On d h) = Hz h
 
+-- P, where it is on
 abbrev pub pClock : Pll → Hertz
 pClock Idle = Unset
 pClock (Runs s) = clockOf (s .p)
 
+-- Q
 abbrev pub qClock : Pll → Hertz
 qClock Idle = Unset
 qClock (Runs s) = clockOf (s .q)
 
+-- R
 abbrev pub rClock : Pll → Hertz
 rClock Idle = Unset
 rClock (Runs s) = clockOf (s .r)

@@ -1,14 +1,15 @@
--- Document 01, One call, from the top: a typed request and the chip's state to one complete plan or one refusal, in refusal order from 3 on.
+-- Document 01, One call, from the top: from a request and the chip to one complete plan or one refusal, in the order of the numbers.
 use Prim.Native.Nat.{ℕ}
-use mathlib.Core.List.{[], _∷_}
+use mathlib.Core.List.{List, [], _∷_}
 use mathlib.Core.Bool.{Bool, true, false, cond}
 use lib.Dec.{eqb}
 use lib.ListN.{replicate}
 use Rattle.types.specs.declared.Hertz.{Hertz}
 use Rattle.types.specs.declared.Hertz.the-variants.{Unset, Hz}
 use Rattle.types.specs.declared.Request.{Request}
+use Rattle.types.specs.declared.Chip.{Chip}
 use Rattle.types.specs.declared.ChipState.{ChipState}
-use Rattle.types.specs.declared.Refusal.the-variants.{HsiOff, HsidivNot2}
+use Rattle.types.specs.declared.Refusal.the-variants.{BankLength, HsiOff, HsidivNot2}
 use Rattle.types.specs.declared.Pll.{Pll}
 use Rattle.types.specs.declared.Pll.the-variants.{Idle}
 use Rattle.types.specs.declared.Plan.{Plan}
@@ -16,6 +17,8 @@ use Rattle.types.specs.declared.Answer.the-variants.{Accepted, Refused}
 use Rattle.types.specs.declared.Planned.{Planned}
 use Rattle.rules.specs.Document01.Result.{Result, refused, ok, _>>=_, _>>_, require}
 use Rattle.rules.specs.Document01.Hertz.{hertzOr}
+use Rattle.rules.specs.Document01.Chip.{chipOf}
+use Rattle.rules.specs.Document01.Bytes.{requestPart}
 use Rattle.rules.specs.Document01.Request.{pllAt, limited, stated, pll1Asked, pll2Asked, sourceOf, systemOf, needsPll1, forSystemClock, sourced}
 use Rattle.rules.specs.Document01.OnePll.{pllOf, pClock, qClock}
 use Rattle.rules.specs.Document01.Buses.{peripheralOf, Bus, ahbOf, apbOf, timerOf}
@@ -32,6 +35,7 @@ pub record Plls : Type 0 where
 abbrev pub thirdOf : Request → ChipState → Result Pll
 thirdOf q c = cond (c .three) (pllOf (c .odd3) (sourceOf q) (pllAt q 2)) (ok Idle)
 
+-- steps 1 to 4
 unfoldable pub pllsOf : Request → ChipState → Result Plls
 pllsOf q c = do
   limited q
@@ -69,6 +73,7 @@ busesOf q system = do
   apb3 ← apbOf (ahb .clock) (q .apb3)
   ok (record { ahb = ahb; apb1 = apb1; apb2 = apb2; apb3 = apb3 })
 
+-- MCO1 and MCO2
 pub record Mcos : Type 0 where
   pub mco1 : Mco
   pub mco2 : Mco
@@ -87,6 +92,7 @@ abbrev pub srcOf : Hertz → ℕ
 srcOf Unset = 1
 srcOf (Hz h) = 3
 
+-- SW, by whether PLL1 P is the system clock
 abbrev pub swOf : (needed : Bool) → Hertz → ℕ
 swOf true hse = 3
 swOf false Unset = 0
@@ -103,10 +109,10 @@ planWith q c l b m = record {
   timx = timerOf (b .ahb .clock) (b .apb1 .pre);
   timy = timerOf (b .ahb .clock) (b .apb2 .pre);
   per = peripheralOf (q .peripheral) (q .hse) .clock;
-  hsi = 32000000;
-  csi = 4000000;
-  hsi48 = 48000000;
-  lsi = 32000;
+  hsi = 32_000_000;
+  csi = 4_000_000;
+  hsi48 = 48_000_000;
+  lsi = 32_000;
   hse = q .hse;
   lse = q .lse;
   audio = q .audio;
@@ -177,10 +183,34 @@ blankPlan = record {
   delay = 0;
 }
 
+-- the answer that steps come to
 abbrev pub answered : Result Plan → Planned
 answered (refused n) = record { answer = Refused n; plan = blankPlan }
 answered (ok p) = record { answer = Accepted; plan = p }
 
--- one complete plan or one refusal
-unfoldable pub planOf : Request → ChipState → Planned
-planOf q c = answered (chosenPlan q c)
+-- the answer to a typed request: one complete plan or one refusal of 3 to 23
+unfoldable pub answerTo : Request → ChipState → Planned
+answerTo q c = answered (chosenPlan q c)
+
+-- ---- on bytes, and the chip's numbers as they come in
+pub record Asked : Type 0 where
+  pub request : Request
+  pub chip : ChipState
+
+-- refusal 1
+unfoldable pub requestOf : (bytes : List ℕ) → Chip → Result Asked
+requestOf bytes chip = do
+  c ← chipOf chip
+  q ← requestPart (c .three) bytes
+  ok (record { request = q .value; chip = c })
+
+-- the planner's call
+unfoldable pub planOf : (bytes : List ℕ) → Chip → Planned
+planOf bytes chip = answered (requestOf bytes chip >>= λ a. chosenPlan (a .request) (a .chip))
+
+-- the bank call: refusal 2, a bank that is not 82 words, stands after 1 and before 3
+unfoldable pub bankPlanOf : (bytes : List ℕ) → Chip → (words : ℕ) → Planned
+bankPlanOf bytes chip words = answered (do
+  a ← requestOf bytes chip
+  require (eqb words 82) BankLength
+  chosenPlan (a .request) (a .chip))

@@ -1,6 +1,6 @@
 -- Document 01, One call, steps 1 to 3: the limits, what an MCO fills, the source and the system clock.
-use Prim.Native.Nat.{ℕ}
-use mathlib.Core.Bool.{Bool, true, false, not, _&&_, _||_}
+use Prim.Native.Nat.{ℕ, zero, suc}
+use mathlib.Core.Bool.{Bool, true, false, not, cond, _&&_, _||_}
 use lib.Dec.{leb, eqb}
 use lib.ListN.{getD}
 use Rattle.types.specs.declared.Hertz.{Hertz}
@@ -21,12 +21,13 @@ pllAt q k = getD (q .plls) k (record { strategy = Integer; p = Unset; q = Unset;
 -- step 1: a clock that is requested is at most 250,000,000
 abbrev pub within : Hertz → Bool
 within Unset = true
-within (Hz h) = leb h 250000000
+within (Hz h) = leb h 250_000_000
 
 -- refusal 3
 abbrev pub limited : Request → Result (Unit {0})
 limited q = require (within (q .system) && (within (q .ahb) && (within (q .apb1) && (within (q .apb2) && within (q .apb3))))) AboveLimit
 
+-- MCO1 from HSE
 abbrev pub fromHse1 : Mco1Source → Bool
 fromHse1 Mco1Source.Hsi = false
 fromHse1 Mco1Source.Lse = false
@@ -34,6 +35,7 @@ fromHse1 Mco1Source.Hse = true
 fromHse1 Mco1Source.Pll1Q = false
 fromHse1 Mco1Source.Hsi48 = false
 
+-- MCO2 from HSE
 abbrev pub fromHse2 : Mco2Source → Bool
 fromHse2 Mco2Source.Sysclk = false
 fromHse2 Mco2Source.Pll2P = false
@@ -54,6 +56,7 @@ forPll1Q Mco1Source.Hse h = Unset
 forPll1Q Mco1Source.Pll1Q h = h
 forPll1Q Mco1Source.Hsi48 h = Unset
 
+-- for the system clock
 abbrev pub forSystem : Mco2Source → Hertz → Hertz
 forSystem Mco2Source.Sysclk h = h
 forSystem Mco2Source.Pll2P h = Unset
@@ -62,6 +65,7 @@ forSystem Mco2Source.Pll1P h = Unset
 forSystem Mco2Source.Csi h = Unset
 forSystem Mco2Source.Lsi h = Unset
 
+-- for PLL2 P
 abbrev pub forPll2P : Mco2Source → Hertz → Hertz
 forPll2P Mco2Source.Sysclk h = Unset
 forPll2P Mco2Source.Pll2P h = h
@@ -70,6 +74,7 @@ forPll2P Mco2Source.Pll1P h = Unset
 forPll2P Mco2Source.Csi h = Unset
 forPll2P Mco2Source.Lsi h = Unset
 
+-- for PLL1 P
 abbrev pub forPll1P : Mco2Source → Hertz → Hertz
 forPll1P Mco2Source.Sysclk h = Unset
 forPll1P Mco2Source.Pll2P h = Unset
@@ -82,6 +87,7 @@ forPll1P Mco2Source.Lsi h = Unset
 abbrev pub systemAsked : Request → Hertz
 systemAsked q = orElse (q .system) (forSystem (q .mco2source) (q .mco2))
 
+-- PLL1, its P and Q filled
 abbrev pub pll1Asked : Request → PllRequest
 pll1Asked q = record {
   strategy = pllAt q 0 .strategy;
@@ -90,6 +96,7 @@ pll1Asked q = record {
   r = pllAt q 0 .r;
 }
 
+-- PLL2, its P filled
 abbrev pub pll2Asked : Request → PllRequest
 pll2Asked q = record {
   strategy = pllAt q 1 .strategy;
@@ -100,7 +107,7 @@ pll2Asked q = record {
 
 -- step 3: the source is HSE, else HSI at 32,000,000
 abbrev pub sourceOf : Request → ℕ
-sourceOf q = hertzOr (q .hse) 32000000
+sourceOf q = hertzOr (q .hse) 32_000_000
 
 -- step 3: the system clock that is wanted; unset it is the source
 abbrev pub systemOf : Request → ℕ
@@ -115,8 +122,15 @@ abbrev pub like : Hertz → ℕ → Bool
 like Unset s = true
 like (Hz p) s = eqb p s
 
+-- with P at so many hertz
 abbrev pub withP : PllRequest → ℕ → PllRequest
 withP a s = record { strategy = a .strategy; p = Hz s; q = a .q; r = a .r }
+
+-- what PLL k, from 0, is asked for after steps 2 and 3
+abbrev pub askedOf : Request → (k : ℕ) → PllRequest
+askedOf q zero = cond (needsPll1 q) (withP (pll1Asked q) (systemOf q)) (pll1Asked q)
+askedOf q (suc zero) = pll2Asked q
+askedOf q (suc (suc k)) = pllAt q 2
 
 -- refusal 5
 unfoldable pub forSystemClock : (needed : Bool) → ℕ → PllRequest → Result PllRequest

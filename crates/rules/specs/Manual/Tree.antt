@@ -5,6 +5,8 @@ use mathlib.Core.List.{List, [], _∷_}
 use Prim.Native.Nat.{ℕ, zero, suc, _+_, _*_, _/_}
 use lib.Dec.{eqb, leb}
 use lib.ListN.{getD}
+use Rattle.rules.specs.Document01.Fields
+use Rattle.rules.specs.Document01.Fields.{ofPll}
 use Rattle.rules.specs.Manual.Path.{PllName, pll1, pll2, pll3, whole, part, Path, direct, through, extend}
 
 -- an oscillator, and HSE as the request states it: its hertz, or nothing
@@ -23,6 +25,7 @@ pub data Output : Type 0 where
   Q : Output
   R : Output
 
+-- CoreClocks without LSE and audio
 pub data Clock : Type 0 where
   sys : Clock
   hclk : Clock
@@ -82,82 +85,91 @@ timerBy (suc t) ppre ahb = cond (leb 8 ppre) (over ahb (ppre / 4)) ahb
 abbrev pub word : List ℕ → ℕ → ℕ
 word b f = getD b f 0
 
--- a PLL's number, from 0, and its fields, from word 15 × number on
+-- a PLL's number, from 0, and its fields
 abbrev pub number : PllName → ℕ
 number pll1 = 0
 number pll2 = 1
 number pll3 = 2
 
+-- a word of PLL j's
 abbrev pub pllWord : List ℕ → PllName → ℕ → ℕ
-pllWord b j f = word b (15 * number j + f)
+pllWord b j f = word b (ofPll (number j) f)
 
 -- an output's divider field and enable
 abbrev pub divider : Output → ℕ
-divider P = 6
-divider Q = 8
-divider R = 10
+divider P = Fields.P
+divider Q = Fields.Q
+divider R = Fields.R
 
+-- an output's enable
 abbrev pub enable : Output → ℕ
-enable P = 7
-enable Q = 9
-enable R = 11
+enable P = Fields.PEN
+enable Q = Fields.QEN
+enable R = Fields.REN
 
 -- ---- the tree
 module _ (b : List ℕ) (fed : Oscillator) where
+  -- HSI
   unfoldable pub hsiOf : Oscillator
-  hsiOf = switched (word b 76) (hsiBy (word b 77))
+  hsiOf = switched (word b Fields.HSION) (hsiBy (word b Fields.HSIDIV))
 
+  -- CSI
   unfoldable pub csiOf : Oscillator
-  csiOf = switched (word b 50) (runs 4_000_000)
+  csiOf = switched (word b Fields.CSION) (runs 4_000_000)
 
+  -- HSI48
   unfoldable pub hsi48Of : Oscillator
-  hsi48Of = switched (word b 52) (runs 48_000_000)
+  hsi48Of = switched (word b Fields.HSI48ON) (runs 48_000_000)
 
+  -- LSI
   unfoldable pub lsiOf : Oscillator
-  lsiOf = switched (word b 45) (runs 32_000)
+  lsiOf = switched (word b Fields.LSION) (runs 32_000)
 
+  -- HSE as fed
   unfoldable pub hseOf : Oscillator
-  hseOf = switched (word b 58) fed
+  hseOf = switched (word b Fields.HSEON) fed
 
   -- SRC: 0 none, 1 HSI, 2 CSI, 3 HSE
   unfoldable pub sourceOf : PllName → Oscillator
-  sourceOf j = getD (off ∷ hsiOf ∷ csiOf ∷ hseOf ∷ []) (pllWord b j 12) off
+  sourceOf j = getD (off ∷ hsiOf ∷ csiOf ∷ hseOf ∷ []) (pllWord b j Fields.SRC) off
 
   -- a PLL's VCO, by M, N, FRACEN and FRACN
   unfoldable pub vcoOf : PllName → Chain
-  vcoOf j = vcoBy j (sourceOf j) (pllWord b j 2) (pllWord b j 3 + 1) (pllWord b j 5) (pllWord b j 4)
+  vcoOf j = vcoBy j (sourceOf j) (pllWord b j Fields.M) (pllWord b j Fields.N + 1) (pllWord b j Fields.FRACEN) (pllWord b j Fields.FRACN)
 
   -- its outputs, by ON, the output's enable and its divider
   unfoldable pub outputOf : PllName → Output → Chain
-  outputOf j o = gated (pllWord b j 13) (gated (pllWord b j (enable o)) (over (vcoOf j) (pllWord b j (divider o) + 1)))
+  outputOf j o = gated (pllWord b j Fields.ON) (gated (pllWord b j (enable o)) (over (vcoOf j) (pllWord b j (divider o) + 1)))
 
   -- SW: 0 HSI, 1 CSI, 2 HSE, 3 PLL1 P
   unfoldable pub sysOf : Chain
-  sysOf = getD (fromOscillator hsiOf ∷ fromOscillator csiOf ∷ fromOscillator hseOf ∷ outputOf pll1 P ∷ []) (word b 67) none
+  sysOf = getD (fromOscillator hsiOf ∷ fromOscillator csiOf ∷ fromOscillator hseOf ∷ outputOf pll1 P ∷ []) (word b Fields.SW) none
 
+  -- AHB = system / HPRE
   unfoldable pub ahbOf : Chain
-  ahbOf = over sysOf (word b 61)
+  ahbOf = over sysOf (word b Fields.HPRE)
 
   -- CKPERSEL: 0 HSI, 1 CSI, 2 HSE
   unfoldable pub perOf : Chain
-  perOf = getD (fromOscillator hsiOf ∷ fromOscillator csiOf ∷ fromOscillator hseOf ∷ []) (word b 65) none
+  perOf = getD (fromOscillator hsiOf ∷ fromOscillator csiOf ∷ fromOscillator hseOf ∷ []) (word b Fields.CKPERSEL) none
 
   -- MCO1SEL: 0 HSI, 1 LSE (which gives none), 2 HSE, 3 PLL1 Q, 4 HSI48; MCO1PRE
   unfoldable pub mco1Of : Chain
-  mco1Of = over (getD (fromOscillator hsiOf ∷ none ∷ fromOscillator hseOf ∷ outputOf pll1 Q ∷ fromOscillator hsi48Of ∷ []) (word b 54) none) (word b 55)
+  mco1Of = over (getD (fromOscillator hsiOf ∷ none ∷ fromOscillator hseOf ∷ outputOf pll1 Q ∷ fromOscillator hsi48Of ∷ []) (word b Fields.MCO1SEL) none) (word b Fields.MCO1PRE)
 
   -- MCO2SEL: 0 system, 1 PLL2 P, 2 HSE, 3 PLL1 P, 4 CSI, 5 LSI; MCO2PRE
   unfoldable pub mco2Of : Chain
-  mco2Of = over (getD (sysOf ∷ outputOf pll2 P ∷ fromOscillator hseOf ∷ outputOf pll1 P ∷ fromOscillator csiOf ∷ fromOscillator lsiOf ∷ []) (word b 56) none) (word b 57)
+  mco2Of = over (getD (sysOf ∷ outputOf pll2 P ∷ fromOscillator hseOf ∷ outputOf pll1 P ∷ fromOscillator csiOf ∷ fromOscillator lsiOf ∷ []) (word b Fields.MCO2SEL) none) (word b Fields.MCO2PRE)
 
+  -- each clock: APB = AHB / its PPRE, timers by TIMPRE
   unfoldable pub pathOf : Clock → Chain
   pathOf sys = sysOf
   pathOf hclk = ahbOf
-  pathOf pclk1 = over ahbOf (word b 62)
-  pathOf pclk2 = over ahbOf (word b 63)
-  pathOf pclk3 = over ahbOf (word b 64)
-  pathOf timx = timerBy (word b 66) (word b 62) ahbOf
-  pathOf timy = timerBy (word b 66) (word b 63) ahbOf
+  pathOf pclk1 = over ahbOf (word b Fields.PPRE1)
+  pathOf pclk2 = over ahbOf (word b Fields.PPRE2)
+  pathOf pclk3 = over ahbOf (word b Fields.PPRE3)
+  pathOf timx = timerBy (word b Fields.TIMPRE) (word b Fields.PPRE1) ahbOf
+  pathOf timy = timerBy (word b Fields.TIMPRE) (word b Fields.PPRE2) ahbOf
   pathOf per = perOf
   pathOf hsi = fromOscillator hsiOf
   pathOf csi = fromOscillator csiOf

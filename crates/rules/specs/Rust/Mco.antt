@@ -14,6 +14,7 @@ pub record MCO1Config : Type 0 where
   pub source : Mco1Source
   pub frequency : Hertz
 
+-- struct MCO2Config
 pub record MCO2Config : Type 0 where
   pub source : Mco2Source
   pub frequency : Hertz

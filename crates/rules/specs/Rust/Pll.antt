@@ -14,18 +14,23 @@ use Rattle.types.specs.declared.Strategy.the-variants.{Integer, Fractional}
 use Rattle.ieee754.specs.Steps.{float}
 use Rattle.rules.specs.Document01.Fields
 use Rattle.rules.specs.Document01.Fields.{ofPll}
+use Rattle.rules.specs.Rust.CoreClocks.{PllClocks}
 use Rattle.rules.specs.Rust.Run as Rust
 use Rattle.rules.specs.Rust.Run.{Run, _>>=_, _>>_, return, panic, assert, modify, is-some, or, div-ceil, as-u8, as-u16, as-i32, sub-i32, contains}
 
+-- const PLL_N_MIN
 abbrev pub PLL-N-MIN : ℕ
 PLL-N-MIN = 4
 
+-- const PLL_N_MAX
 abbrev pub PLL-N-MAX : ℕ
 PLL-N-MAX = 512
 
+-- const PLL_OUT_DIV_MAX
 abbrev pub PLL-OUT-DIV-MAX : ℕ
 PLL-OUT-DIV-MAX = 128
 
+-- const PLL_M_MAX
 abbrev pub PLL-M-MAX : ℕ
 PLL-M-MAX = 63
 
@@ -44,11 +49,13 @@ pub record VcoRange : Type 0 where
   pub input-end : ℕ
   pub vcosel : ℕ
 
+-- const VCO_RANGE_MEDIUM
 abbrev pub VCO-RANGE-MEDIUM : VcoRange
-VCO-RANGE-MEDIUM = record { output-start = 150000000; output-end = 420000000; input-start = 1000000; input-end = 2000000; vcosel = 1 }
+VCO-RANGE-MEDIUM = record { output-start = 150_000_000; output-end = 420_000_000; input-start = 1_000_000; input-end = 2_000_000; vcosel = 1 }
 
+-- const VCO_RANGE_WIDE
 abbrev pub VCO-RANGE-WIDE : VcoRange
-VCO-RANGE-WIDE = record { output-start = 128000000; output-end = 560000000; input-start = 2000000; input-end = 16000000; vcosel = 0 }
+VCO-RANGE-WIDE = record { output-start = 128_000_000; output-end = 560_000_000; input-start = 2_000_000; input-end = 16_000_000; vcosel = 0 }
 
 -- Option<PllOutput>
 pub data PllOutput : Type 0 where
@@ -75,6 +82,7 @@ mapped (Hz ck) false = do
   doubled ← Rust.mul ck 2
   return (doubled ∷ [])
 
+-- let outputs = [(p_ck, p_odd_allowed), (q_ck, true), (r_ck, true)]
 abbrev pub outputs-of : PllConfig → (p-odd-allowed : Bool) → Run (List ℕ)
 outputs-of pllcfg p-odd-allowed = do
   p ← mapped (pllcfg .p-ck) p-odd-allowed
@@ -87,6 +95,7 @@ abbrev pub fold-min : ℕ → List ℕ → ℕ
 fold-min least [] = least
 fold-min least (ck ∷ cks) = fold-min (cond (eqb least 0) ck (min least ck)) cks
 
+-- the other part of the fold
 abbrev pub fold-max : ℕ → List ℕ → ℕ
 fold-max most [] = most
 fold-max most (ck ∷ cks) = fold-max (max most ck) cks
@@ -94,8 +103,8 @@ fold-max most (ck ∷ cks) = fold-max (max most ck) cks
 -- vco_ranges.find(|range| range.end() > &max_output).expect(..)
 abbrev pub find-range : (max-output : ℕ) → Run VcoRange
 find-range max-output =
-    cond (ltb max-output 420000000) (return VCO-RANGE-MEDIUM)
-    (cond (ltb max-output 560000000) (return VCO-RANGE-WIDE) panic)
+    cond (ltb max-output 420_000_000) (return VCO-RANGE-MEDIUM)
+    (cond (ltb max-output 560_000_000) (return VCO-RANGE-WIDE) panic)
 
 -- let vco_out_target = if (vco_out_target / min_output) > PLL_OUT_DIV_MAX { .. }
 abbrev pub lowered : (vco-out-target quotient : ℕ) → Run ℕ
@@ -124,6 +133,7 @@ min-from pllsrc vco-out-target best least from (suc count) = do
   key ← key-of pllsrc vco-out-target from
   min-from pllsrc vco-out-target (cond (ltZ key least) from best) (cond (ltZ key least) key least) (suc from) count
 
+-- .min_by_key(..).unwrap() over a range: the first is the best so far, and none panics
 unfoldable pub min-by-key : (pllsrc vco-out-target : ℕ) → (from count : ℕ) → Run ℕ
 min-by-key pllsrc vco-out-target from zero = panic
 min-by-key pllsrc vco-out-target from (suc count) = do
@@ -166,6 +176,7 @@ divider-setup pllsrc pllcfg range vco-out-target = do
     pll-r = pll-x-r;
   })
 
+-- assert!(min_output >= max_output / PLL_OUT_DIV_MAX), the range, and on
 unfoldable pub range-setup : (pllsrc : ℕ) → PllConfig → (min-output max-output : ℕ) → Run PllSetup
 range-setup pllsrc pllcfg min-output max-output = do
   assert (leb (max-output / PLL-OUT-DIV-MAX) min-output)
@@ -173,6 +184,7 @@ range-setup pllsrc pllcfg min-output max-output = do
   vco-out-target ← target-setup min-output max-output range
   divider-setup pllsrc pllcfg range vco-out-target
 
+-- the whole function
 unfoldable pub vco-output-divider-setup : (pllsrc : ℕ) → PllConfig → (p-odd-allowed : Bool) → Run PllSetup
 vco-output-divider-setup pllsrc pllcfg p-odd-allowed = do
   outputs ← outputs-of pllcfg p-odd-allowed
@@ -183,10 +195,11 @@ vco-output-divider-setup pllsrc pllcfg p-odd-allowed = do
 -- match pll_setup.ref_ck
 abbrev pub rge : (ref-ck : ℕ) → ℕ
 rge ref-ck =
-    cond (leb 1000000 ref-ck && leb ref-ck 1999999) 0
-    (cond (leb 2000000 ref-ck && leb ref-ck 3999999) 1
-    (cond (leb 4000000 ref-ck && leb ref-ck 7999999) 2 3))
+    cond (leb 1_000_000 ref-ck && leb ref-ck 1_999_999) 0
+    (cond (leb 2_000_000 ref-ck && leb ref-ck 3_999_999) 1
+    (cond (leb 4_000_000 ref-ck && leb ref-ck 7_999_999) 2 3))
 
+-- VCOSEL, then RGE
 abbrev pub vco-setup : (k pllsrc : ℕ) → PllConfig → (odd-allowed : Bool) → Run PllSetup
 vco-setup k pllsrc pllcfg odd-allowed = do
   pll-setup ← vco-output-divider-setup pllsrc pllcfg odd-allowed
@@ -213,6 +226,7 @@ calc-fracn ref-clk pll-n pll-p output = do
   assert (le (mul binary32 (float 8192) (sub binary32 (div binary32 (mul binary32 output pll-p) ref-clk) pll-n)) (float 8191))
   return (toUnsigned 16 (mul binary32 (float 8192) (sub binary32 (div binary32 (mul binary32 output pll-p) ref-clk) pll-n)))
 
+-- fn calc_vco_ck
 unfoldable pub calc-vco-ck : (ref-ck pll-n pll-fracn : ℕ) → ℕ
 calc-vco-ck ref-ck pll-n pll-fracn = toUnsigned 32 (mul binary32 (float ref-ck) (add binary32 (float pll-n) (div binary32 (float pll-fracn) (float 8192))))
 
@@ -233,15 +247,10 @@ fractional-vco k ref-ck pll-x-n (Some ck d) = do
   modify (Set (ofPll k Fields.FRACEN) 1)
   return (calc-vco-ck ref-ck pll-x-n pll-x-fracn)
 
+-- PllConfigStrategy::Fractional, or ref_ck * pll_x_n
 unfoldable pub vco-ck-of : (k : ℕ) → Strategy → (ref-ck pll-x-n : ℕ) → PllOutput → Run ℕ
 vco-ck-of k Integer ref-ck pll-x-n pll-x = Rust.mul ref-ck pll-x-n
 vco-ck-of k Fractional ref-ck pll-x-n pll-x = fractional-vco k ref-ck pll-x-n pll-x
-
--- (Option<Hertz>, Option<Hertz>, Option<Hertz>)
-pub record PllClocks : Type 0 where
-  pub p-ck : Hertz
-  pub q-ck : Hertz
-  pub r-ck : Hertz
 
 -- from vco_setup! on
 unfoldable pub write-pll : (k : ℕ) → Strategy → PllSetup → Run PllClocks
@@ -257,6 +266,7 @@ write-pll k strategy pll-setup = do
   r-ck-hz ← pll-divider-setup (ofPll k Fields.R) (ofPll k Fields.REN) vco-ck (pll-setup .pll-r)
   return (record { p-ck = p-ck-hz; q-ck = q-ck-hz; r-ck = r-ck-hz })
 
+-- fn pllX_setup
 unfoldable pub pll-setup : (k : ℕ) → (odd-allowed : Bool) → (pllsrc : ℕ) → PllConfig → Run PllClocks
 pll-setup k odd-allowed pllsrc pll = do
   assert (ltb 0 pllsrc)

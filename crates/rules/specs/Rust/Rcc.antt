@@ -19,23 +19,29 @@ use Rattle.rules.specs.Document01.Request.{pllAt}
 use Rattle.rules.specs.Document01.Mco.{mco1Code, mco2Code}
 use Rattle.rules.specs.Rust.Run as Rust
 use Rattle.rules.specs.Rust.Run.{Outcome, Run, _>>=_, _>>_, return, panic, assert, modify, poll, assertReads, unwrap, unwrap-or, is-some, or, div-ceil}
-use Rattle.rules.specs.Rust.Pll.{PllConfig, PllClocks, pll-setup}
+use Rattle.rules.specs.Rust.CoreClocks.{PllClocks, CoreClocks}
+use Rattle.rules.specs.Rust.Pll.{PllConfig, pll-setup}
 use Rattle.rules.specs.Rust.Mco.{MCO1Config, MCO2Config, Prescaled, calculate-prescaler}
 
+-- const HSI
 abbrev pub HSI : ℕ
-HSI = 32000000
+HSI = 32_000_000
 
+-- const CSI
 abbrev pub CSI : ℕ
-CSI = 4000000
+CSI = 4_000_000
 
+-- const HSI48
 abbrev pub HSI48 : ℕ
-HSI48 = 48000000
+HSI48 = 48_000_000
 
+-- const LSI
 abbrev pub LSI : ℕ
-LSI = 32000
+LSI = 32_000
 
+-- const MAX_SYSCLK_FREQ_HZ
 abbrev pub MAX-SYSCLK-FREQ-HZ : ℕ
-MAX-SYSCLK-FREQ-HZ = 250000000
+MAX-SYSCLK-FREQ-HZ = 250_000_000
 
 -- struct Config
 pub record Config : Type 0 where
@@ -62,9 +68,11 @@ abbrev pub set-capped : Hertz → Run (Unit {0})
 set-capped Unset = return tt
 set-capped (Hz freq) = assert (leb freq MAX-SYSCLK-FREQ-HZ)
 
+-- pllX_strategy, pllX_p_ck, pllX_q_ck, pllX_r_ck
 abbrev pub pll-config : PllRequest → PllConfig
 pll-config a = record { strategy = a .strategy; p-ck = a .p; q-ck = a .q; r-ck = a .r }
 
+-- all that the setters store
 abbrev pub config-of : Request → Config
 config-of q = record {
   hse = q .hse;
@@ -84,6 +92,7 @@ config-of q = record {
   pll3 = pll-config (pllAt q 2);
 }
 
+-- the setters that assert, and the config
 unfoldable pub setters : Request → Run Config
 setters q = do
   set-capped (q .system)
@@ -99,9 +108,11 @@ setters q = do
 abbrev pub with-q-ck : PllConfig → Hertz → PllConfig
 with-q-ck pll q-ck = record { strategy = pll .strategy; p-ck = pll .p-ck; q-ck = q-ck; r-ck = pll .r-ck }
 
+-- self.config.pll1.p_ck = ..
 abbrev pub with-p-ck : PllConfig → Hertz → PllConfig
 with-p-ck pll p-ck = record { strategy = pll .strategy; p-ck = p-ck; q-ck = pll .q-ck; r-ck = pll .r-ck }
 
+-- self.config.pll1 = ..
 abbrev pub with-pll1 : Config → PllConfig → Config
 with-pll1 c pll = record {
   hse = c .hse;
@@ -121,6 +132,7 @@ with-pll1 c pll = record {
   pll3 = c .pll3;
 }
 
+-- self.config.pll2 = ..
 abbrev pub with-pll2 : Config → PllConfig → Config
 with-pll2 c pll = record {
   hse = c .hse;
@@ -140,6 +152,7 @@ with-pll2 c pll = record {
   pll3 = c .pll3;
 }
 
+-- self.config.sys_ck = ..
 abbrev pub with-sys-ck : Config → Hertz → Config
 with-sys-ck c sys-ck = record {
   hse = c .hse;
@@ -169,9 +182,11 @@ mco1-source Mco1Source.Hse c = do
 mco1-source Mco1Source.Pll1Q c = return (with-pll1 c (with-q-ck (c .pll1) (or (c .pll1 .q-ck) (c .mco1 .frequency))))
 mco1-source Mco1Source.Hsi48 c = return c
 
+-- fn mco1_setup
 unfoldable pub mco1-setup : Config → Run Config
 mco1-setup c = mco1-source (c .mco1 .source) c
 
+-- Sysclk, Pll2P, Pll1P: filled if none; Hse: assert!(hse.is_some())
 abbrev pub mco2-source : Mco2Source → Config → Run Config
 mco2-source Mco2Source.Sysclk c = return (with-sys-ck c (or (c .sys-ck) (c .mco2 .frequency)))
 mco2-source Mco2Source.Pll2P c = return (with-pll2 c (with-p-ck (c .pll2) (or (c .pll2 .p-ck) (c .mco2 .frequency))))
@@ -182,6 +197,7 @@ mco2-source Mco2Source.Pll1P c = return (with-pll1 c (with-p-ck (c .pll1) (or (c
 mco2-source Mco2Source.Csi c = return c
 mco2-source Mco2Source.Lsi c = return c
 
+-- fn mco2_setup
 unfoldable pub mco2-setup : Config → Run Config
 mco2-setup c = mco2-source (c .mco2 .source) c
 
@@ -198,15 +214,18 @@ pub record SysCk : Type 0 where
   pub sys-ck : ℕ
   pub sys-use-pll1-p : Bool
 
+-- let srcclk = self.config.hse.unwrap_or(HSI)
 abbrev pub srcclk : Config → ℕ
 srcclk c = unwrap-or (c .hse) HSI
 
+-- if sys_ck != srcclk
 unfoldable pub sys-ck-from : (sys-ck : ℕ) → Config → Run SysCk
 sys-ck-from sys-ck c =
     cond (not (eqb sys-ck (srcclk c)))
     (pll1-p-for sys-ck (c .pll1 .p-ck) >>= λ pll1-p-ck. return (record { config = with-pll1 c (with-p-ck (c .pll1) pll1-p-ck); sys-ck = sys-ck; sys-use-pll1-p = true }))
     (return (record { config = c; sys-ck = sys-ck; sys-use-pll1-p = false }))
 
+-- fn sys_ck_setup
 unfoldable pub sys-ck-setup : Config → Run SysCk
 sys-ck-setup c = sys-ck-from (unwrap-or (c .sys-ck) (srcclk c)) c
 
@@ -225,9 +244,11 @@ match-hpre x =
     (cond (leb 96 x && leb x 191) (return 128)
     (cond (leb 192 x && leb x 383) (return 256) (return 512)))))))))
 
+-- enum PPRE of the register crate
 pub data PPRE : Type 0 where
   Div1 Div2 Div4 Div8 Div16 : PPRE
 
+-- its divisor
 abbrev pub ppre-div : PPRE → ℕ
 ppre-div Div1 = 1
 ppre-div Div2 = 2
@@ -235,6 +256,7 @@ ppre-div Div4 = 4
 ppre-div Div8 = 8
 ppre-div Div16 = 16
 
+-- enum TIMPRE of the register crate
 pub data TIMPRE : Type 0 where
   DefaultX2 DefaultX4 : TIMPRE
 
@@ -247,10 +269,12 @@ match-ppre x =
     (cond (leb 3 x && leb x 5) (return Div4)
     (cond (leb 6 x && leb x 11) (return Div8) (return Div16)))))
 
+-- (bits, pclk)
 pub record Pclk : Type 0 where
   pub bits : PPRE
   pub pclk : ℕ
 
+-- the whole macro, for one bus
 unfoldable pub ppre-calculate : (hclk : ℕ) → (pclk : Hertz) → Run Pclk
 ppre-calculate hclk pclk = do
   ratio ← div-ceil hclk (unwrap-or pclk hclk)
@@ -271,6 +295,7 @@ rcc-tim-ker-clk Div8 DefaultX4 hclk = hclk / 2
 rcc-tim-ker-clk Div16 DefaultX2 hclk = hclk / 8
 rcc-tim-ker-clk Div16 DefaultX4 hclk = hclk / 4
 
+-- the bit of a TIMPRE
 abbrev pub timpre-bits : TIMPRE → ℕ
 timpre-bits DefaultX2 = 0
 timpre-bits DefaultX4 = 1
@@ -314,43 +339,19 @@ match-vos Scale3 mhz =
     (cond (leb 60 mhz && leb mhz 79) (states 3 1)
     (cond (leb 80 mhz && leb mhz 100) (states 4 2) (states 7 3)))))
 
+-- flash.acr().write(..), and the poll
 unfoldable pub flash-acr : WaitStates → Run (Unit {0})
 flash-acr w = do
   modify (Set3 Fields.WRHIGHFREQ (w .progr-delay) Fields.LATENCY (w .wait-states) Fields.PRFTEN (cond (ltb 0 (w .wait-states)) 1 0))
   poll (Wait Fields.LATENCY (w .wait-states))
 
+-- fn flash_setup
 unfoldable pub flash-setup : (rcc-hclk : ℕ) → Scale → Run (Unit {0})
 flash-setup rcc-hclk vos = do
   less ← Rust.sub rcc-hclk 1
-  flash-acr (match-vos vos (less / 1000000))
+  flash-acr (match-vos vos (less / 1_000_000))
 
 -- ---- fn freeze
-
--- struct CoreClocks
-pub record CoreClocks : Type 0 where
-  pub hclk : ℕ
-  pub pclk1 : ℕ
-  pub pclk2 : ℕ
-  pub pclk3 : ℕ
-  pub ppre1 : ℕ
-  pub ppre2 : ℕ
-  pub ppre3 : ℕ
-  pub csi-ck : Hertz
-  pub hsi-ck : Hertz
-  pub hsi48-ck : Hertz
-  pub lsi-ck : Hertz
-  pub per-ck : Hertz
-  pub hse-ck : Hertz
-  pub lse-ck : Hertz
-  pub audio-ck : Hertz
-  pub mco1-ck : Hertz
-  pub mco2-ck : Hertz
-  pub pll1 : PllClocks
-  pub pll2 : PllClocks
-  pub pll3 : PllClocks
-  pub timx-ker-ck : ℕ
-  pub timy-ker-ck : ℕ
-  pub sys-ck : ℕ
 
 -- the PLLs' clocks; pll3 is there with the feature rm0481
 pub record Plls : Type 0 where
@@ -358,9 +359,11 @@ pub record Plls : Type 0 where
   pub pll2 : PllClocks
   pub pll3 : PllClocks
 
+-- (None, None, None)
 abbrev pub no-pll : PllClocks
 no-pll = record { p-ck = Unset; q-ck = Unset; r-ck = Unset }
 
+-- #[cfg(feature = "rm0481")]
 abbrev pub if-rm0481 : {A : Type 0} → Bool → Run A → A → Run A
 if-rm0481 true run a = run
 if-rm0481 false run a = return a
@@ -382,18 +385,22 @@ pub record PerCk : Type 0 where
   pub per-ck : ℕ
   pub ckpersel : ℕ
 
+-- (_, Some(CSI)), or _
 abbrev pub csi-or-hsi : ℕ → PerCk
 csi-or-hsi ck = cond (eqb ck CSI) (record { per-ck = CSI; ckpersel = 1 }) (record { per-ck = HSI; ckpersel = 0 })
 
+-- the whole match
 unfoldable pub match-per-ck : (per-ck hse : Hertz) → PerCk
 match-per-ck Unset hse = record { per-ck = HSI; ckpersel = 0 }
 match-per-ck (Hz ck) Unset = csi-or-hsi ck
 match-per-ck (Hz ck) (Hz hse) = cond (eqb ck hse) (record { per-ck = ck; ckpersel = 2 }) (csi-or-hsi ck)
 
+-- (hpre_div, rcc_hclk)
 pub record Hclk : Type 0 where
   pub hpre-div : ℕ
   pub rcc-hclk : ℕ
 
+-- rcc_hclk, its divisor, and sys_ck / hpre_div
 unfoldable pub hclk-calculate : (sys-ck : ℕ) → (rcc-hclk : Hertz) → Run Hclk
 hclk-calculate sys-ck rcc-hclk = do
   ratio ← div-ceil sys-ck (unwrap-or rcc-hclk sys-ck)
@@ -401,12 +408,14 @@ hclk-calculate sys-ck rcc-hclk = do
   hz ← Rust.div sys-ck hpre-div
   return (record { hpre-div = hpre-div; rcc-hclk = hz })
 
+-- AHB and APB1 to 3
 pub record Buses : Type 0 where
   pub hclk : Hclk
   pub pclk1 : Pclk
   pub pclk2 : Pclk
   pub pclk3 : Pclk
 
+-- from rcc_hclk to ppre_calculate!
 unfoldable pub buses-calculate : (sys-ck : ℕ) → Config → Run Buses
 buses-calculate sys-ck c = do
   hclk ← hclk-calculate sys-ck (c .rcc-hclk)
@@ -423,6 +432,7 @@ mco1-in Mco1Source.Hse c l = unwrap (c .hse)
 mco1-in Mco1Source.Pll1Q c l = unwrap (l .pll1 .q-ck)
 mco1-in Mco1Source.Hsi48 c l = return HSI48
 
+-- let mco2_in
 unfoldable pub mco2-in : Mco2Source → (sys-ck : ℕ) → Config → Plls → Run ℕ
 mco2-in Mco2Source.Sysclk sys-ck c l = return sys-ck
 mco2-in Mco2Source.Pll2P sys-ck c l = unwrap (l .pll2 .p-ck)
@@ -431,10 +441,12 @@ mco2-in Mco2Source.Pll1P sys-ck c l = unwrap (l .pll1 .p-ck)
 mco2-in Mco2Source.Csi sys-ck c l = return CSI
 mco2-in Mco2Source.Lsi sys-ck c l = return LSI
 
+-- MCO1 and MCO2
 pub record Mcos : Type 0 where
   pub mco1 : Prescaled
   pub mco2 : Prescaled
 
+-- mco1_in and mco2_in, and calculate_prescaler of each
 unfoldable pub mcos-calculate : (sys-ck : ℕ) → Config → Plls → Run Mcos
 mcos-calculate sys-ck c l = do
   in1 ← mco1-in (c .mco1 .source) c l
@@ -502,6 +514,7 @@ switch-clocks c sys-use-pll1-p b ckpersel timpre = do
   modify (Set4 Fields.EN1 1 Fields.CS1 0 Fields.EN2 1 Fields.CS2 0)
   poll (Wait2 Fields.RDY1 1 Fields.RDY2 1)
 
+-- clocks: CoreClocks { .. }
 unfoldable pub clocks-of : (sys-ck : ℕ) → Config → Plls → Buses → Mcos → TIMPRE → CoreClocks
 clocks-of sys-ck c l b m timpre = record {
   hclk = b .hclk .rcc-hclk;

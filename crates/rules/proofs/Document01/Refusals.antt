@@ -1,0 +1,255 @@
+-- Which refusals there are: each has its own number from 1 to 24, and which numbers each call can answer.
+use mathlib.Core.Path.{_≡_, refl, sym, ap, _∙_, subst}
+use mathlib.Core.Bool.{Bool, true, false, not, _&&_, _||_}
+use mathlib.Core.List.{List, [], _∷_}
+use Prim.Native.Nat.{ℕ, _/_, _%_, _≤_}
+use native.Mathlib.Omega.{arith}
+use lib.Dec.{leb, ltb, eqb}
+use lib.ListN.{getD}
+use borrow.Author.Tests.{leb-true, eqb-true, eqb-false, not-true}
+use Rattle.types.specs.declared.Hertz.{Hertz}
+use Rattle.types.specs.declared.Hertz.the-variants.{Unset, Hz}
+use Rattle.types.specs.declared.Strategy.{Strategy}
+use Rattle.types.specs.declared.Strategy.the-variants.{Integer, Fractional}
+use Rattle.types.specs.declared.Mco1Source.{Mco1Source}
+use Rattle.types.specs.declared.Mco2Source.{Mco2Source}
+use Rattle.types.specs.declared.PllRequest.{PllRequest}
+use Rattle.types.specs.declared.PllSettings.{PllSettings}
+use Rattle.types.specs.declared.Request.{Request}
+use Rattle.types.specs.declared.ChipState.{ChipState}
+use Rattle.types.specs.declared.Fracn.{Fracn}
+use Rattle.types.specs.declared.Fracn.the-variants.{Value, OutOfRange}
+use Rattle.types.specs.declared.FoundM.{FoundM}
+use Rattle.types.specs.declared.FoundM.the-variants.{Nothing, M}
+use Rattle.types.specs.declared.Refusal.{Refusal}
+use Rattle.types.specs.declared.Refusal.the-variants.{OutsideCodes, BankLength, AboveLimit, McoHseUnstated, Pll1PUnlikeSystem, SourceZero, OutputZero, OutputsTooFarApart, OutputTooHigh, TargetOutside, NoM, NOutside, FracnOutside, PDividerAbove128, PDividerOdd, HsiOff, HsidivNot2, BusZero, AhbZero, Mco1Lse, McoNoOutput, McoZero, McoRatio, CsiDown}
+use Rattle.types.specs.declared.Plan.{Plan}
+use Rattle.types.specs.declared.Answer.the-variants.{Accepted, Refused}
+use Rattle.types.specs.declared.Planned.{Planned}
+use Rattle.ieee754.specs.Steps.{float, fracnOf}
+use Rattle.rules.specs.Document01.Result.{Result, refused, ok, _>>=_, _>>_, require}
+use Rattle.rules.specs.Document01.Refusals.{numberOf}
+use Rattle.rules.specs.Document01.Hertz.{isSet, notZero, hertzOr, ratioOf}
+use Rattle.rules.specs.Document01.Request.{pllAt, within, limited, fromHse1, fromHse2, stated, pll1Asked, pll2Asked, sourceOf, systemOf, needsPll1, like, withP, forSystemClock, sourced}
+use Rattle.rules.specs.Document01.ChoiceOfM.{chosenM}
+use Rattle.rules.specs.Document01.OnePll.{wanted, noneZero, countedOutputs, least, largest, Range, admissible, firstOf, taken, fractionOf, dividerP, allowedP, spanned, rangeFor, targetFor, dividedBy, settingsOf, settled, runs, running, pllOf, pClock, qClock}
+use Rattle.rules.specs.Document01.Buses.{hpreFor, ppreFor, ahbOf, apbOf}
+use Rattle.rules.specs.Document01.Mco.{Mco, planned, mco1Input, mco2Input, mcoOf}
+use Rattle.rules.specs.Document01.Plan.{Plls, thirdOf, pllsOf, hsiReady, systemFrom, busesOf, mcosOf, planWith, chosenPlan, answered, answerTo}
+use Rattle.laws.proofs.Tests.{by-test, and-left, and-right}
+use Rattle.rules.proofs.Document01.Results.{Only, only-require, only-then, only-next, only-tested}
+use Rattle.rules.proofs.Document01.Multiplier.{range-kind, n-tested, n-known}
+
+-- ---- no two refusals have the same number
+-- the refusals in the order of their numbers, from 1
+abbrev inOrder : List Refusal
+inOrder =
+    OutsideCodes ∷ BankLength ∷ AboveLimit ∷ McoHseUnstated ∷ Pll1PUnlikeSystem ∷ SourceZero ∷ OutputZero ∷ OutputsTooFarApart ∷ OutputTooHigh ∷ TargetOutside ∷ NoM ∷ NOutside
+    ∷ FracnOutside ∷ PDividerAbove128 ∷ PDividerOdd ∷ HsiOff ∷ HsidivNot2 ∷ BusZero ∷ AhbZero ∷ Mco1Lse ∷ McoNoOutput ∷ McoZero ∷ McoRatio ∷ CsiDown ∷ []
+
+abbrev refusalOf : ℕ → Refusal
+refusalOf n = getD (CsiDown ∷ inOrder) n CsiDown
+
+back : (n : Refusal) → refusalOf (numberOf n) ≡ n
+back OutsideCodes = refl
+back BankLength = refl
+back AboveLimit = refl
+back McoHseUnstated = refl
+back Pll1PUnlikeSystem = refl
+back SourceZero = refl
+back OutputZero = refl
+back OutputsTooFarApart = refl
+back OutputTooHigh = refl
+back TargetOutside = refl
+back NoM = refl
+back NOutside = refl
+back FracnOutside = refl
+back PDividerAbove128 = refl
+back PDividerOdd = refl
+back HsiOff = refl
+back HsidivNot2 = refl
+back BusZero = refl
+back AhbZero = refl
+back Mco1Lse = refl
+back McoNoOutput = refl
+back McoZero = refl
+back McoRatio = refl
+back CsiDown = refl
+
+pub numbers-differ : (m n : Refusal) → numberOf m ≡ numberOf n → m ≡ n
+numbers-differ m n e = sym (back m) ∙ ap refusalOf e ∙ back n
+
+-- ---- a typed request is refused with 3 to 23, and never with 12
+abbrev pub typed : Refusal → Bool
+typed n = leb 3 (numberOf n) && (leb (numberOf n) 23 && not (eqb (numberOf n) 12))
+
+abbrev pub Typed : Refusal → Type 0
+Typed n = typed n ≡ true
+
+taken-only : (v : Fracn) → Only Typed (taken v)
+taken-only (Value f) = tt
+taken-only OutOfRange = refl
+
+fraction-only : (s : Strategy) (ref n d o : ℕ) → Only Typed (fractionOf s ref n d o)
+fraction-only Integer ref n d o = tt
+fraction-only Fractional ref n d o = taken-only (fracnOf (float ref) (float n) (float d) (float o))
+
+allowed-only : (odd : Bool) (d : ℕ) → Only Typed (allowedP odd d)
+allowed-only odd d =
+    only-tested Typed (leb d 128) PDividerAbove128 (require (odd || eqb (d % 2) 0) PDividerOdd) refl (only-require Typed (odd || eqb (d % 2) 0) PDividerOdd refl)
+
+spanned-only : (odd : Bool) (a : PllRequest) → Only Typed (spanned odd a)
+unfolding spanned
+spanned-only odd a =
+    let low : ℕ = least (countedOutputs odd a) in
+    let most : ℕ = largest (countedOutputs odd a) in
+    only-tested Typed (noneZero a) OutputZero (require (leb (most / 128) low) OutputsTooFarApart >> require (ltb most 560_000_000) OutputTooHigh) refl
+    (only-tested Typed (leb (most / 128) low) OutputsTooFarApart (require (ltb most 560_000_000) OutputTooHigh) refl (only-require Typed (ltb most 560_000_000) OutputTooHigh refl))
+
+module _ (odd : Bool) (source : ℕ) (a : PllRequest) where
+  abbrev g : Range
+  g = rangeFor odd a
+
+  abbrev target : ℕ
+  target = targetFor odd a
+
+  settled-only : (m : ℕ) → leb 4 (target / (source / m)) && leb (target / (source / m)) 512 ≡ true → Only Typed (settled odd a g target m (source / m) (target / (source / m)))
+  unfolding settled
+  settled-only m t =
+      rw t
+      (only-then Typed (fractionOf (a .strategy) (source / m) (target / (source / m)) (target / firstOf a) (firstOf a)) _ (fraction-only (a .strategy) _ _ _ _)
+      (λ f. only-next Typed (allowedP odd (dividerP target (a .p))) (ok (settingsOf a g target m (source / m) (target / (source / m)) f)) (allowed-only odd (dividerP target (a .p))) tt))
+
+  chosen-only : leb (g .start) target && leb target (g .end) ≡ true → (f : FoundM) → chosenM source target (g .low) (g .high) ≡ f
+      → Only Typed (admissible f >>= λ m. settled odd a g target m (source / m) (target / (source / m)))
+  chosen-only t Nothing e = refl
+  chosen-only t (M m) e = settled-only m (n-tested g (range-kind (largest (countedOutputs odd a))) _ (n-known odd source a t m e))
+
+  divided-only : Only Typed (dividedBy source g target >>= λ m. settled odd a g target m (source / m) (target / (source / m)))
+  unfolding dividedBy
+  divided-only =
+      by-test (leb (g .start) target && leb target (g .end))
+      (λ t. rw t (chosen-only t (chosenM source target (g .low) (g .high)) refl))
+      (λ f. rw f refl)
+
+  runs-only : Only Typed (runs odd source a)
+  unfolding runs
+  runs-only = only-next Typed (spanned odd a) _ (spanned-only odd a) divided-only
+
+running-only : (x : Result PllSettings) → Only Typed x → Only Typed (running x)
+running-only (refused n) h = h
+running-only (ok s) h = tt
+
+pll-only : (odd : Bool) (source : ℕ) (a : PllRequest) → Only Typed (pllOf odd source a)
+unfolding pllOf
+pll-only odd source a = by-test (wanted a) (λ w. rw w (running-only (runs odd source a) (runs-only odd source a))) (λ w. rw w tt)
+
+third-only : (q : Request) (c : ChipState) → Only Typed (thirdOf q c)
+third-only q c = by-test (c .three) (λ t. rw t (pll-only (c .odd3) (sourceOf q) (pllAt q 2))) (λ f. rw f tt)
+
+system-only : (t : Bool) (s : ℕ) (a : PllRequest) → Only Typed (forSystemClock t s a)
+unfolding forSystemClock
+system-only false s a = tt
+system-only true s a = only-tested Typed (like (a .p) s) Pll1PUnlikeSystem _ refl tt
+
+plls-only : (q : Request) (c : ChipState) → Only Typed (pllsOf q c)
+unfolding pllsOf
+plls-only q c =
+    only-next Typed (limited q) _ (only-require Typed (within (q .system) && (within (q .ahb) && (within (q .apb1) && (within (q .apb2) && within (q .apb3))))) AboveLimit refl)
+    (only-next Typed (stated q) _ (only-require Typed (isSet (q .hse) || not (fromHse1 (q .mco1source) || fromHse2 (q .mco2source))) McoHseUnstated refl)
+    (only-then Typed (forSystemClock (needsPll1 q) (systemOf q) (pll1Asked q)) _ (system-only (needsPll1 q) (systemOf q) (pll1Asked q))
+    (λ a. only-next Typed (sourced q) _ (only-require Typed (not (eqb (sourceOf q) 0)) SourceZero refl)
+    (only-then Typed (pllOf (c .odd1) (sourceOf q) a) _ (pll-only (c .odd1) (sourceOf q) a)
+    (λ x. only-then Typed (pllOf (c .odd2) (sourceOf q) (pll2Asked q)) _ (pll-only (c .odd2) (sourceOf q) (pll2Asked q))
+    (λ y. only-then Typed (thirdOf q c) _ (third-only q c) (λ z. tt)))))))
+
+ahb-only : (system : ℕ) (h : Hertz) → Only Typed (ahbOf system h)
+unfolding ahbOf
+ahb-only system h =
+    let hz : ℕ = system / hpreFor system h in
+    only-tested Typed (notZero h) BusZero (require (not (eqb hz 0)) AhbZero >> ok (record { pre = hpreFor system h; clock = hz })) refl
+    (only-tested Typed (not (eqb hz 0)) AhbZero (ok (record { pre = hpreFor system h; clock = hz })) refl tt)
+
+apb-only : (ahb : ℕ) (h : Hertz) → Only Typed (apbOf ahb h)
+unfolding apbOf
+apb-only ahb h = only-tested Typed (notZero h) BusZero (ok (record { pre = ppreFor ahb h; clock = ahb / ppreFor ahb h })) refl tt
+
+buses-only : (q : Request) (system : ℕ) → Only Typed (busesOf q system)
+unfolding busesOf
+buses-only q system =
+    only-then Typed (ahbOf system (q .ahb)) _ (ahb-only system (q .ahb))
+    (λ a. only-then Typed (apbOf (a .clock) (q .apb1)) _ (apb-only (a .clock) (q .apb1))
+    (λ x. only-then Typed (apbOf (a .clock) (q .apb2)) _ (apb-only (a .clock) (q .apb2))
+    (λ y. only-then Typed (apbOf (a .clock) (q .apb3)) _ (apb-only (a .clock) (q .apb3)) (λ z. tt))))
+
+planned-only : (h : Hertz) → Only Typed (planned h)
+planned-only Unset = refl
+planned-only (Hz h) = tt
+
+mco1-only : (s : Mco1Source) (hse q : Hertz) → Only Typed (mco1Input s hse q)
+unfolding mco1Input
+mco1-only Mco1Source.Hsi hse q = tt
+mco1-only Mco1Source.Lse hse q = refl
+mco1-only Mco1Source.Hse hse q = tt
+mco1-only Mco1Source.Pll1Q hse q = planned-only q
+mco1-only Mco1Source.Hsi48 hse q = tt
+
+mco2-only : (s : Mco2Source) (system : ℕ) (hse p1 p2 : Hertz) → Only Typed (mco2Input s system hse p1 p2)
+unfolding mco2Input
+mco2-only Mco2Source.Sysclk system hse p1 p2 = tt
+mco2-only Mco2Source.Pll2P system hse p1 p2 = planned-only p2
+mco2-only Mco2Source.Hse system hse p1 p2 = tt
+mco2-only Mco2Source.Pll1P system hse p1 p2 = planned-only p1
+mco2-only Mco2Source.Csi system hse p1 p2 = tt
+mco2-only Mco2Source.Lsi system hse p1 p2 = tt
+
+mco-only : (clock : ℕ) (h : Hertz) → Only Typed (mcoOf clock h)
+unfolding mcoOf
+mco-only clock Unset = tt
+mco-only clock (Hz h) =
+    let ratio : ℕ = ratioOf clock h in
+    let fits : Bool = leb 1 ratio && leb ratio 15 in
+    let made : Result Mco = ok (record { pre = ratio; clock = Hz (clock / ratio) }) in
+    only-tested Typed (not (eqb h 0)) McoZero (require fits McoRatio >> made) refl (only-tested Typed fits McoRatio made refl tt)
+
+mcos-only : (q : Request) (l : Plls) (system : ℕ) → Only Typed (mcosOf q l system)
+unfolding mcosOf
+mcos-only q l system =
+    only-then Typed (mco1Input (q .mco1source) (q .hse) (qClock (l .pll1))) _ (mco1-only (q .mco1source) (q .hse) (qClock (l .pll1)))
+    (λ i. only-then Typed (mcoOf i (q .mco1)) _ (mco-only i (q .mco1))
+    (λ x. only-then Typed (mco2Input (q .mco2source) system (q .hse) (pClock (l .pll1)) (pClock (l .pll2))) _ (mco2-only (q .mco2source) system (q .hse) (pClock (l .pll1)) (pClock (l .pll2)))
+    (λ j. only-then Typed (mcoOf j (q .mco2)) _ (mco-only j (q .mco2)) (λ y. tt))))
+
+ready-only : (c : ChipState) → Only Typed (hsiReady c)
+ready-only c = only-tested Typed (c .hsion) HsiOff (require (eqb (c .hsidiv) 2) HsidivNot2) refl (only-require Typed (eqb (c .hsidiv) 2) HsidivNot2 refl)
+
+pub chosen-plan-only : (q : Request) (c : ChipState) → Only Typed (chosenPlan q c)
+unfolding chosenPlan
+chosen-plan-only q c =
+    only-then Typed (pllsOf q c) _ (plls-only q c)
+    (λ l. only-next Typed (hsiReady c) _ (ready-only c)
+    (only-then Typed (busesOf q (systemFrom q l)) _ (buses-only q (systemFrom q l))
+    (λ b. only-then Typed (mcosOf q l (systemFrom q l)) _ (mcos-only q l (systemFrom q l)) (λ m. tt))))
+
+-- what a caller reads off the answer
+pub record Numbered (low high : ℕ) (n : Refusal) : Type 0 where
+  pub from : low ≤ numberOf n
+  pub to : numberOf n ≤ high
+  pub not12 : numberOf n ≡ 12 → ⊥
+
+pub numbered : (n : Refusal) → Typed n → Numbered 3 23 n
+numbered n t =
+    let rest : leb (numberOf n) 23 && not (eqb (numberOf n) 12) ≡ true = and-right (leb 3 (numberOf n)) _ t in
+    record {
+      from = leb-true 3 (numberOf n) (and-left (leb 3 (numberOf n)) _ t);
+      to = leb-true (numberOf n) 23 (and-left (leb (numberOf n) 23) _ rest);
+      not12 = eqb-false (numberOf n) 12 (not-true (eqb (numberOf n) 12) (and-right (leb (numberOf n) 23) _ rest));
+    }
+
+pub typed-numbers : (q : Request) (c : ChipState) (n : Refusal) → answerTo q c .answer ≡ Refused n → Numbered 3 23 n
+unfolding answerTo
+typed-numbers q c n e = go (chosenPlan q c) (chosen-plan-only q c) e
+  where
+    go : (x : Result Plan) → Only Typed x → answered x .answer ≡ Refused n → Numbered 3 23 n
+    go (refused m) h e = let s : m ≡ n = cc in subst (λ (k : Refusal). Numbered 3 23 k) s (numbered m h)
+    go (ok p) h e = absurd (let z : _≡_ {A = ℕ} 0 1 = cc in omega arith)

@@ -1,0 +1,152 @@
+-- Which refusals the calls on bytes answer: the planner's 1 and 3 to 23, the bank call 2 as well; neither 12, and 24 is the walk's alone.
+use mathlib.Core.Path.{_≡_, refl, subst}
+use mathlib.Core.Bool.{Bool, true, false, _&&_, _||_}
+use mathlib.Core.List.{List, [], _∷_}
+use mathlib.Core.Logic.{_⊎_, inl, inr}
+use Prim.Native.Nat.{ℕ, zero, suc}
+use native.Mathlib.Omega.{arith}
+use lib.Dec.{eqb, ltb}
+use Rattle.types.specs.declared.Hertz.{Hertz}
+use Rattle.types.specs.declared.Chip.{Chip}
+use Rattle.types.specs.declared.Refusal.{Refusal}
+use Rattle.types.specs.declared.Refusal.the-variants.{OutsideCodes, BankLength}
+use Rattle.types.specs.declared.Plan.{Plan}
+use Rattle.types.specs.declared.Answer.the-variants.{Refused}
+use Rattle.rules.specs.Document01.Result.{Result, refused, ok, _>>=_, _>>_, require}
+use Rattle.rules.specs.Document01.Refusals.{numberOf}
+use Rattle.rules.specs.Document01.Chip.{isBit, isHsidiv, chipOf}
+use Rattle.rules.specs.Document01.Bytes.{Read, Reader, fits, byte, end, code, word, setTo, hertz, flag, mco1Source, mco2Source, strategy, pllPart, thirdPart, requestPart}
+use Rattle.rules.specs.Document01.Plan.{chosenPlan, answered, requestOf, planOf, bankPlanOf}
+use Rattle.rules.proofs.Document01.Results.{Only, only-require, only-then, only-next}
+use Rattle.rules.proofs.Document01.Refusals.{Typed, chosen-plan-only, Numbered, numbered}
+
+-- ---- reading refuses with 1
+module _ (P : Refusal → Type 0) (one : P OutsideCodes) where
+  chip-only : (chip : Chip) → Only P (chipOf chip)
+  unfolding chipOf
+  chip-only chip =
+      only-next P (require (eqb (chip .plls) 2 || eqb (chip .plls) 3) OutsideCodes) _ (only-require P (eqb (chip .plls) 2 || eqb (chip .plls) 3) OutsideCodes one)
+      (only-next P (require (isBit (chip .odd1) && (isBit (chip .odd2) && isBit (chip .odd3))) OutsideCodes) _ (only-require P (isBit (chip .odd1) && (isBit (chip .odd2) && isBit (chip .odd3))) OutsideCodes one)
+      (only-next P (require (ltb (chip .scale) 4) OutsideCodes) _ (only-require P (ltb (chip .scale) 4) OutsideCodes one)
+      (only-next P (require (isBit (chip .hsion)) OutsideCodes) _ (only-require P (isBit (chip .hsion)) OutsideCodes one)
+      (only-next P (require (isHsidiv (chip .hsidiv)) OutsideCodes) _ (only-require P (isHsidiv (chip .hsidiv)) OutsideCodes one) tt))))
+
+  abbrev Refuses : {A : Type 0} → Reader A → Type 0
+  Refuses r = (bytes : List ℕ) → Only P (r bytes)
+
+  byte-only : Refuses byte
+  unfolding byte
+  byte-only [] = one
+  byte-only (b ∷ bytes) = tt
+
+  end-only : Refuses end
+  unfolding end
+  end-only [] = tt
+  end-only (b ∷ bytes) = one
+
+  fits-only : (b : Bool) → Refuses (fits b)
+  fits-only true bytes = tt
+  fits-only false bytes = one
+
+  code-only : (n : ℕ) → Refuses (code n)
+  unfolding code
+  code-only n bytes = only-then P (byte bytes) _ (byte-only bytes) (λ x. only-then P (fits (ltb (x .value) n) (x .rest)) _ (fits-only (ltb (x .value) n) (x .rest)) (λ y. tt))
+
+  word-only : Refuses word
+  unfolding word
+  word-only bytes =
+      only-then P (byte bytes) _ (byte-only bytes) (λ a. only-then P (byte (a .rest)) _ (byte-only (a .rest))
+      (λ b. only-then P (byte (b .rest)) _ (byte-only (b .rest)) (λ c. only-then P (byte (c .rest)) _ (byte-only (c .rest)) (λ d. tt))))
+
+  set-only : (set n : ℕ) → Refuses (setTo set n)
+  set-only zero n bytes = only-then P (fits (eqb n 0) bytes) _ (fits-only (eqb n 0) bytes) (λ x. tt)
+  set-only (suc set) n bytes = tt
+
+  hertz-only : Refuses hertz
+  unfolding hertz
+  hertz-only bytes = only-then P (code 2 bytes) _ (code-only 2 bytes) (λ s. only-then P (word (s .rest)) _ (word-only (s .rest)) (λ n. set-only (s .value) (n .value) (n .rest)))
+
+  flag-only : Refuses flag
+  unfolding flag
+  flag-only bytes = only-then P (code 2 bytes) _ (code-only 2 bytes) (λ c. tt)
+
+  mco1-only : Refuses mco1Source
+  unfolding mco1Source
+  mco1-only bytes = only-then P (code 5 bytes) _ (code-only 5 bytes) (λ c. tt)
+
+  mco2-only : Refuses mco2Source
+  unfolding mco2Source
+  mco2-only bytes = only-then P (code 6 bytes) _ (code-only 6 bytes) (λ c. tt)
+
+  strategy-only : Refuses strategy
+  unfolding strategy
+  strategy-only bytes = only-then P (code 2 bytes) _ (code-only 2 bytes) (λ c. tt)
+
+  pll-only : Refuses pllPart
+  unfolding pllPart
+  pll-only bytes =
+      only-then P (strategy bytes) _ (strategy-only bytes) (λ s. only-then P (hertz (s .rest)) _ (hertz-only (s .rest))
+      (λ p. only-then P (hertz (p .rest)) _ (hertz-only (p .rest)) (λ q. only-then P (hertz (q .rest)) _ (hertz-only (q .rest)) (λ r. tt))))
+
+  third-only : (three : Bool) → Refuses (thirdPart three)
+  third-only true bytes = pll-only bytes
+  third-only false bytes = tt
+
+  -- a reader of hertz, then whatever follows
+  after-hertz : {B : Type 0} (bytes : List ℕ) (k : Read Hertz → Result B) → ((x : Read Hertz) → Only P (k x)) → Only P (hertz bytes >>= k)
+  after-hertz bytes k f = only-then P (hertz bytes) k (hertz-only bytes) f
+
+  request-only : (three : Bool) → Refuses (requestPart three)
+  unfolding requestPart
+  request-only three bytes =
+      after-hertz bytes _ (λ x. after-hertz (x .rest) _ (λ x. after-hertz (x .rest) _ (λ x. after-hertz (x .rest) _ (λ x. after-hertz (x .rest) _
+      (λ x. after-hertz (x .rest) _ (λ x. after-hertz (x .rest) _ (λ x. after-hertz (x .rest) _ (λ x. after-hertz (x .rest) _
+      (λ x. only-then P (flag (x .rest)) _ (flag-only (x .rest))
+      (λ x. only-then P (mco1Source (x .rest)) _ (mco1-only (x .rest))
+      (λ x. after-hertz (x .rest) _
+      (λ x. only-then P (mco2Source (x .rest)) _ (mco2-only (x .rest))
+      (λ x. after-hertz (x .rest) _
+      (λ x. only-then P (pllPart (x .rest)) _ (pll-only (x .rest))
+      (λ x. only-then P (pllPart (x .rest)) _ (pll-only (x .rest))
+      (λ x. only-then P (thirdPart three (x .rest)) _ (third-only three (x .rest))
+      (λ x. only-then P (end (x .rest)) _ (end-only (x .rest)) (λ x. tt))))))))))))))))))
+
+  asked-only : (bytes : List ℕ) (chip : Chip) → Only P (requestOf bytes chip)
+  unfolding requestOf
+  asked-only bytes chip = only-then P (chipOf chip) _ (chip-only chip) (λ c. only-then P (requestPart (c .three) bytes) _ (request-only (c .three) bytes) (λ q. tt))
+
+-- ---- the calls
+more : (P Q : Refusal → Type 0) → ((n : Refusal) → P n → Q n) → {A : Type 0} (x : Result A) → Only P x → Only Q x
+more P Q f (refused n) h = f n h
+more P Q f (ok a) h = tt
+
+read-off : (P : Refusal → Type 0) (x : Result Plan) (n : Refusal) → Only P x → answered x .answer ≡ Refused n → P n
+read-off P (refused m) n h e = let s : m ≡ n = cc in subst P s h
+read-off P (ok p) n h e = absurd (let z : _≡_ {A = ℕ} 0 1 = cc in omega arith)
+
+-- 1, or 3 to 23 save 12
+abbrev pub ByPlan : Refusal → Type 0
+ByPlan n = (numberOf n ≡ 1) ⊎ Numbered 3 23 n
+
+plan-only : (bytes : List ℕ) (chip : Chip) → Only ByPlan (requestOf bytes chip >>= λ a. chosenPlan (a .request) (a .chip))
+plan-only bytes chip =
+    only-then ByPlan (requestOf bytes chip) (λ a. chosenPlan (a .request) (a .chip)) (asked-only ByPlan (inl refl) bytes chip)
+    (λ a. more Typed ByPlan (λ m h. inr (numbered m h)) (chosenPlan (a .request) (a .chip)) (chosen-plan-only (a .request) (a .chip)))
+
+pub plan-numbers : (bytes : List ℕ) (chip : Chip) (n : Refusal) → planOf bytes chip .answer ≡ Refused n → ByPlan n
+unfolding planOf
+plan-numbers bytes chip n e = read-off ByPlan (requestOf bytes chip >>= λ a. chosenPlan (a .request) (a .chip)) n (plan-only bytes chip) e
+
+-- 1, 2, or 3 to 23 save 12
+abbrev pub ByBank : Refusal → Type 0
+ByBank n = (numberOf n ≡ 2) ⊎ ByPlan n
+
+bank-only : (bytes : List ℕ) (chip : Chip) (words : ℕ) → Only ByBank (requestOf bytes chip >>= λ a. require (eqb words 82) BankLength >> chosenPlan (a .request) (a .chip))
+bank-only bytes chip words =
+    only-then ByBank (requestOf bytes chip) (λ a. require (eqb words 82) BankLength >> chosenPlan (a .request) (a .chip)) (asked-only ByBank (inr (inl refl)) bytes chip)
+    (λ a. only-next ByBank (require (eqb words 82) BankLength) (chosenPlan (a .request) (a .chip)) (only-require ByBank (eqb words 82) BankLength (inl refl))
+    (more Typed ByBank (λ m h. inr (inr (numbered m h))) (chosenPlan (a .request) (a .chip)) (chosen-plan-only (a .request) (a .chip))))
+
+pub bank-numbers : (bytes : List ℕ) (chip : Chip) (words : ℕ) (n : Refusal) → bankPlanOf bytes chip words .answer ≡ Refused n → ByBank n
+unfolding bankPlanOf
+bank-numbers bytes chip words n e = read-off ByBank (requestOf bytes chip >>= λ a. require (eqb words 82) BankLength >> chosenPlan (a .request) (a .chip)) n (bank-only bytes chip words) e

@@ -1,0 +1,74 @@
+-- What a plan reports: the same clocks as Rcc::freeze, in the form of core_clocks.rs.
+use Prim.Native.Nat.{ℕ}
+use Rattle.types.specs.declared.Hertz.{Hertz}
+use Rattle.types.specs.declared.Hertz.the-variants.{Hz}
+use Rattle.types.specs.declared.Pll.{Pll}
+use Rattle.types.specs.declared.Plan.{Plan}
+use Rattle.rules.specs.Document01.OnePll.{pClock, qClock, rClock}
+use Rattle.rules.specs.Document01.Entries.{pllIn}
+use Rattle.rules.specs.Rust.CoreClocks.{PllClocks, CoreClocks}
+use Rattle.rules.specs.Manual.Path.{PllName, pll1, pll2, pll3}
+use Rattle.rules.specs.Manual.Tree.{Output, P, Q, R, Clock, sys, hclk, pclk1, pclk2, pclk3, timx, timy, per, hsi, csi, hsi48, lsi, hse, mco1, mco2, output}
+
+-- the clocks of one PLL
+abbrev pub pllClocks : Pll → PllClocks
+pllClocks x = record { p-ck = pClock x; q-ck = qClock x; r-ck = rClock x }
+
+-- the clocks of a plan
+abbrev pub reported : Plan → CoreClocks
+reported p = record {
+  hclk = p .hclk;
+  pclk1 = p .pclk1;
+  pclk2 = p .pclk2;
+  pclk3 = p .pclk3;
+  ppre1 = p .ppre1;
+  ppre2 = p .ppre2;
+  ppre3 = p .ppre3;
+  csi-ck = Hz (p .csi);
+  hsi-ck = Hz (p .hsi);
+  hsi48-ck = Hz (p .hsi48);
+  lsi-ck = Hz (p .lsi);
+  per-ck = Hz (p .per);
+  hse-ck = p .hse;
+  lse-ck = p .lse;
+  audio-ck = p .audio;
+  mco1-ck = p .mco1;
+  mco2-ck = p .mco2;
+  pll1 = pllClocks (pllIn p 0);
+  pll2 = pllClocks (pllIn p 1);
+  pll3 = pllClocks (pllIn p 2);
+  timx-ker-ck = p .timx;
+  timy-ker-ck = p .timy;
+  sys-ck = p .sys;
+}
+
+-- ---- one clock of those reported, for each that has a path: all but LSE and audio, which are passed through (document 01, One call)
+abbrev pub pllOf : CoreClocks → PllName → PllClocks
+pllOf k pll1 = k .pll1
+pllOf k pll2 = k .pll2
+pllOf k pll3 = k .pll3
+
+-- P, Q or R of a PLL
+abbrev pub outputOf : PllClocks → Output → Hertz
+outputOf x P = x .p-ck
+outputOf x Q = x .q-ck
+outputOf x R = x .r-ck
+
+-- each clock
+abbrev pub hertzOf : CoreClocks → Clock → Hertz
+hertzOf k sys = Hz (k .sys-ck)
+hertzOf k hclk = Hz (k .hclk)
+hertzOf k pclk1 = Hz (k .pclk1)
+hertzOf k pclk2 = Hz (k .pclk2)
+hertzOf k pclk3 = Hz (k .pclk3)
+hertzOf k timx = Hz (k .timx-ker-ck)
+hertzOf k timy = Hz (k .timy-ker-ck)
+hertzOf k per = k .per-ck
+hertzOf k hsi = k .hsi-ck
+hertzOf k csi = k .csi-ck
+hertzOf k hsi48 = k .hsi48-ck
+hertzOf k lsi = k .lsi-ck
+hertzOf k hse = k .hse-ck
+hertzOf k mco1 = k .mco1-ck
+hertzOf k mco2 = k .mco2-ck
+hertzOf k (output j o) = outputOf (pllOf k j) o

@@ -1,0 +1,43 @@
+-- Document 01, refusal 1, for the numbers beside a request: PLL count 2 or 3, odd-P permissions and HSION 0 or 1, voltage scale 0 to 3,
+-- HSIDIV 1, 2, 4, 8. All three permissions are judged on either chip.
+use mathlib.Core.Bool.{Bool, _&&_, _||_}
+use mathlib.Core.List.{List, [], _∷_}
+use Prim.Native.Nat.{ℕ}
+use lib.Dec.{eqb, ltb}
+use lib.ListN.{getD}
+use Rattle.types.specs.declared.Scale.{Scale}
+use Rattle.types.specs.declared.Scale.the-variants.{Scale0, Scale1, Scale2, Scale3}
+use Rattle.types.specs.declared.Chip.{Chip}
+use Rattle.types.specs.declared.ChipState.{ChipState}
+use Rattle.types.specs.declared.Refusal.the-variants.{OutsideCodes}
+use Rattle.rules.specs.Document01.Result.{Result, ok, _>>=_, _>>_, require}
+
+-- 0 or 1
+abbrev pub isBit : ℕ → Bool
+isBit n = ltb n 2
+
+-- HSIDIV: 1, 2, 4, 8
+abbrev pub isHsidiv : ℕ → Bool
+isHsidiv n = eqb n 1 || (eqb n 2 || (eqb n 4 || eqb n 8))
+
+-- voltage scale 0 to 3
+abbrev pub scaleOf : ℕ → Scale
+scaleOf n = getD (Scale0 ∷ Scale1 ∷ Scale2 ∷ Scale3 ∷ []) n Scale0
+
+-- the chip's numbers, as a state
+unfoldable pub chipOf : Chip → Result ChipState
+chipOf c = do
+  require (eqb (c .plls) 2 || eqb (c .plls) 3) OutsideCodes
+  require (isBit (c .odd1) && (isBit (c .odd2) && isBit (c .odd3))) OutsideCodes
+  require (ltb (c .scale) 4) OutsideCodes
+  require (isBit (c .hsion)) OutsideCodes
+  require (isHsidiv (c .hsidiv)) OutsideCodes
+  ok (record {
+    three = eqb (c .plls) 3;
+    odd1 = eqb (c .odd1) 1;
+    odd2 = eqb (c .odd2) 1;
+    odd3 = eqb (c .odd3) 1;
+    scale = scaleOf (c .scale);
+    hsion = eqb (c .hsion) 1;
+    hsidiv = c .hsidiv;
+  })
