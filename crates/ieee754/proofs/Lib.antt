@@ -2,4 +2,5 @@ pub mod Cut
 pub mod Round
 pub mod Values
 pub mod Same
+pub mod Zero
 pub mod Examples

@@ -2,11 +2,12 @@
 -- `size n` is how many binary digits n has, and `closest a b` is a / b to the nearest whole number, a tie to the even one (`lib.Ieee`, `lib.Ieee.Nearest`).
 
 use Prim.Native.Nat.{ℕ, _+_, _-_, _*_, _/_, _^_, min}
-use mathlib.Core.Bool.{Bool, _&&_}
-use lib.Dec.{leb}
+use mathlib.Core.Bool.{Bool, cond, _&&_}
+use lib.Dec.{leb, eqb}
 use lib.Ieee.{size}
 use lib.Ieee.Nearest.{closest}
 use Rattle.types.specs.declared.Fracn.{Fracn}
+use Rattle.types.specs.declared.Fracn.the-variants.{OutOfRange}
 use Rattle.ieee754.specs.Steps.{accept}
 
 -- how many units are 1
@@ -50,6 +51,10 @@ fracnWhole ref n divider output =
     let q = quotientWhole ref divider output in
     let f = times (whole 8192) (less q (whole n)) in
     accept (leb (whole n) q && leb f (8191 * unit)) (f / unit)
+
+-- the same for every reference: 0 is refused, since there is no quotient
+unfoldable pub fracnFor : ℕ → ℕ → ℕ → ℕ → Fracn
+fracnFor ref n divider output = cond (eqb ref 0) OutOfRange (fracnWhole ref n divider output)
 
 -- ref × (N + FRACN / 8192), cut down, and at most 2 ^ 32 - 1
 unfoldable pub vcoWhole : ℕ → ℕ → ℕ → ℕ
