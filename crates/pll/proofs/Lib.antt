@@ -1,0 +1,4 @@
+pub mod Search
+pub mod Settled
+pub mod Divided
+pub mod Spanning

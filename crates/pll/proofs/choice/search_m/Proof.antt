@@ -1,0 +1,112 @@
+use Rattle.pll.proofs.Search.{before-first, after-last, between, best-same, Held, held-first, held-less, held-not, held-number, held-fits}
+use Rattle.pll.specs.Search.{numberOf}
+use Rattle.rules.proofs.Document01.ChoiceOfM.{best-none, best-more, range-le}
+use Rattle.rules.specs.Document01.ChoiceOfM.{inRange, bestTo, chosenM}
+use Rattle.laws.proofs.Numbers.{signed-less-held}
+use Rattle.types.specs.declared.FoundM.the-variants.{Nothing}
+use borrow.Author.Needs.{needs}
+use native.Mathlib.Nat.{div-le-self}
+use native.Mathlib.Omega.{arith}
+use Prim.Native.Nat.{ℕ, _+_, _-_, _/_, _≤_, _<_, min}
+use mathlib.Core.Logic.{⊎-elim}
+use mathlib.Core.Bool.{true}
+use mathlib.Core.Path.{_≡_, refl, sym, _∙_, ap}
+use Rattle.pll.proofs.choice.search_m.Statement.{statement}
+use Rattle.pll.proofs.choice.search_m.Tie as tie
+use Rattle.pll.proofs.choice.search_m.Reads as reads
+use Rattle.pll.proofs.choice.search_m.Lts as lts
+use Rattle.pll.proofs.choice.last_m.Reads as last-m-reads
+use Rattle.pll.proofs.choice.shortfall.Reads as shortfall-reads
+
+abbrev Inv-loop : tie.InvT-loop
+Inv-loop source target low high last best₀ least₀ m₀ best least m = (last ≡ min (source / low) 63) × ((source - 1) / high < m) × Held source target (bestTo source target low high (min (m - 1) 63)) best least
+
+abbrev μ-loop : tie.MeasureT-loop
+μ-loop source target low high last best₀ least₀ m₀ best least m = 64 - m
+
+-- an M that the loop reaches is in range
+reached : (c : tie.In-loop Inv-loop μ-loop) → inRange (c .before .before .before .args .source) (c .before .before .before .args .low) (c .before .before .before .args .high) (c .before .loop .m) ≡ true
+reached c =
+    let p = c .before .before .before .pre in
+    let i = c .before .loop .inv in
+    between _ _ _ (p .0) (p .1) (p .2) _ (i .1) (omega arith)
+
+last-m-requires : tie.Need-last-m-requires Inv-loop μ-loop
+last-m-requires c κs = search needs
+
+sub-m : tie.Need-sub-m Inv-loop μ-loop
+sub-m c = search needs
+
+div-m : tie.Need-div-m Inv-loop μ-loop
+div-m c = search needs
+
+add-m : tie.Need-add-m Inv-loop μ-loop
+add-m c = omega (arith, c .before .fits .source .fits, div-le-self (c .before .args .source - 1) (c .before .args .high))
+
+loop-holds : tie.Need-loop-holds Inv-loop μ-loop
+loop-holds c = let a = c .before .args in
+    let p = c .before .pre in
+    let n : bestTo (a .source) (a .target) (a .low) (a .high) (min ((a .source - 1) / a .high + 1 - 1) 63) ≡ Nothing =
+    best-same _ _ _ _ 0 _ (omega arith) (λ k l m. before-first _ (a .low) _ (p .0) k (omega arith)) ∙ best-none _ _ _ _ in
+    (c .last-m .ensures, omega arith, rw n refl)
+
+shortfall-requires : tie.Need-shortfall-requires Inv-loop μ-loop
+shortfall-requires c κs = let p = c .before .before .before .pre in
+    let i = c .before .loop .inv in
+    (omega arith, range-le _ _ _ (p .1) _ (reached c), p .3)
+
+add-m-2 : tie.Need-add-m-2 Inv-loop μ-loop
+add-m-2 c = omega arith
+
+loop-less : tie.Need-loop-less Inv-loop μ-loop
+loop-less c = omega arith
+
+loop-again : tie.Need-loop-again Inv-loop μ-loop
+loop-again c = let s = c .before .before .before .before .before in
+    let l = c .before .before .before .loop in
+    let i = l .inv in
+    let a = s .args in
+    let ir = reached (c .before .before) in
+    let f = bestTo (a .source) (a .target) (a .low) (a .high) (l .m - 1) in
+    let now : min (l .m - 1) 63 ≡ l .m - 1 = omega arith in
+    let next : min (l .m + 1 - 1) 63 ≡ l .m + 1 - 1 = omega arith in
+    let held : Held (a .source) (a .target) f (l .best) (l .least) = rw now at (i .2) in
+    let short = c .before .shortfall in (
+      i .0,
+      omega arith,
+      rw (next, best-more _ _ _ _ (l .m) (omega arith))
+          (⊎-elim
+          (λ w. rw (w .1, w .2, short .ensures)
+          (⊎-elim (λ v. held-first _ _ _ _ f _ _ _ (omega arith) held ir (v .taken))
+          (λ v. held-less _ _ _ _ f _ _ _ (omega arith) held ir (signed-less-held (record { sfits = short .ok }) (held-fits _ _ (s .pre .3) f _ _ held (v .0 .left)) (short .ensures) (v .1 .taken)))
+          (w .0 .came)))
+          (λ w. rw (w .2, w .3) (held-not _ _ _ _ f _ _ _ held ir (w .0 .left) (signed-less-held (record { sfits = short .ok }) (held-fits _ _ (s .pre .3) f _ _ held (w .0 .left)) (short .ensures) (w .1 .left))))
+          (c .if1 .came)),
+    )
+
+returns : tie.Need-returns Inv-loop μ-loop
+unfolding chosenM
+returns c = let a = c .before .before .before .args in
+    let p = c .before .before .before .pre in
+    let l = c .before .loop in
+    let i = l .inv in
+    let e : bestTo (a .source) (a .target) (a .low) (a .high) 63 ≡ bestTo (a .source) (a .target) (a .low) (a .high) (min (l .m - 1) 63) =
+    best-same _ _ _ _ _ 63 (omega arith) (λ k b t. after-last _ _ _ (p .1) k (omega arith)) in
+    held-number (a .source) (a .target) (bestTo (a .source) (a .target) (a .low) (a .high) (min (l .m - 1) 63)) (l .best) (l .least) (i .2) ∙ sym (ap numberOf e)
+
+pub search-m-spec : {M : Type 1} → statement M
+search-m-spec =
+    tie.close
+    (tie.spec
+    Inv-loop
+    μ-loop
+    last-m-requires
+    sub-m
+    div-m
+    add-m
+    loop-holds
+    shortfall-requires
+    add-m-2
+    loop-less
+    loop-again
+    returns)

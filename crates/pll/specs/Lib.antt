@@ -1,0 +1,4 @@
+pub mod Answer
+pub mod Spans
+pub mod Search
+pub mod Settle

@@ -1,0 +1,48 @@
+// The reference divider M of a PLL: the smallest of those with the least shortfall.
+ghost use mathlib.Core.Path.{_≡_};
+ghost use Prim.Native.Nat.{_/_, _≤_, _<_, min};
+ghost use lib.IntN.{pos};
+ghost use Rattle.rules.specs.Document01.ChoiceOfM.{shortfallOf, chosenM};
+ghost use Rattle.pll.specs.Search.{numberOf};
+
+// What the reference times N falls short of the target: a difference of two i32, and never below 0.
+fn shortfall(source: u32, target: u32, m: u32) -> i32
+    requires { ⌜ (1 ≤ m) × (m ≤ source) × (target < 2147483648) ⌝ }
+    ensures { λ r. ⌜ r ≡ pos (shortfallOf source target m) ⌝ }
+{
+    let reference = source / m;
+    let n = target / reference;
+    target as i32 - (reference * n) as i32
+}
+
+// The last M that is admissible, if any is.
+fn last_m(source: u32, low: u32) -> u32
+    requires { ⌜ 1 ≤ low ⌝ }
+    ensures { λ r. ⌜ r ≡ min (source / low) 63 ⌝ }
+{
+    let last = source / low;
+    if last < 63 {
+        return last;
+    }
+    63
+}
+
+// The search over all M from the first to the last that is admissible; 0 where there is none.
+pub fn search_m(source: u32, target: u32, low: u32, high: u32) -> u32
+    requires { ⌜ (1 ≤ source) × (1 ≤ low) × (1 ≤ high) × (target < 2147483648) ⌝ }
+    ensures { λ r. ⌜ r ≡ numberOf (chosenM source target low high) ⌝ }
+{
+    let last = last_m(source, low);
+    let mut best: u32 = 0;
+    let mut least: i32 = 0;
+    let mut m = (source - 1) / high + 1;
+    while m <= last {
+        let short = shortfall(source, target, m);
+        if best == 0 || short < least {
+            best = m;
+            least = short;
+        }
+        m += 1;
+    }
+    best
+}

@@ -1,0 +1,71 @@
+// One PLL, from its request to its settings or a refusal: pll.rs.
+ghost use mathlib.Core.Path.{_≡_};
+ghost use mathlib.Core.Bool.{true};
+ghost use Prim.Native.Nat.{_≤_};
+ghost use Rattle.rules.specs.Document01.OnePll as Rules;
+ghost use Rattle.pll.specs.Answer.{pllAnswer, onePllOf, afterSpan};
+ghost use Rattle.pll.specs.Spans.{Spanned};
+use types::Pll;
+use types::PllRequest;
+use types::Refusal;
+
+mod choice;
+mod outputs;
+mod settle;
+mod vco;
+
+pub enum PllAnswer {
+    Planned(Pll),
+    Refused(Refusal),
+}
+
+// One PLL of a source of so many hertz: idle, its settings, or a refusal of 6 to 15, in the order of the numbers.
+pub fn plan_pll(odd: bool, source: u32, request: PllRequest) -> PllAnswer
+    ensures { λ r. ⌜ r ≡ pllAnswer (onePllOf odd source request) ⌝ }
+{
+    if source == 0 {
+        return PllAnswer::Refused(Refusal::SourceZero);
+    }
+    if !outputs::wanted(request) {
+        return PllAnswer::Planned(Pll::Idle);
+    }
+    run_pll(odd, source, request)
+}
+
+// Refusals 7, 8 and 9.
+fn run_pll(odd: bool, source: u32, request: PllRequest) -> PllAnswer
+    requires { ⌜ (1 ≤ source) × (Rules.wanted request ≡ true) ⌝ }
+    ensures { λ r. ⌜ r ≡ pllAnswer (Rules.running (Rules.runs odd source request)) ⌝ }
+{
+    if !outputs::none_zero(request) {
+        return PllAnswer::Refused(Refusal::OutputZero);
+    }
+    let s = outputs::span_of(odd, request);
+    let least = s.least;
+    let most = s.most;
+    if least < most / 128 {
+        return PllAnswer::Refused(Refusal::OutputsTooFarApart);
+    }
+    if 560_000_000 <= most {
+        return PllAnswer::Refused(Refusal::OutputTooHigh);
+    }
+    divide(odd, source, request, least as u32, most as u32)
+}
+
+// Refusals 10 and 11: the VCO's range and target, and M.
+fn divide(odd: bool, source: u32, request: PllRequest, least: u32, most: u32) -> PllAnswer
+    requires { ⌜ Spanned odd source request least most ⌝ }
+    ensures { λ r. ⌜ r ≡ pllAnswer (afterSpan odd source request) ⌝ }
+{
+    let g = vco::range_of(most);
+    let target = vco::target_of(least, most, g.end);
+    if target < g.start {
+        return PllAnswer::Refused(Refusal::TargetOutside);
+    }
+    let m = choice::search_m(source, target, g.low, g.high);
+    if m == 0 {
+        return PllAnswer::Refused(Refusal::NoM);
+    }
+    let reference = source / m;
+    settle::settle(odd, request, g.vcosel, target, m, reference)
+}

@@ -1,0 +1,34 @@
+-- `prescaler::apb` meets its contract.
+use mathlib.Core.Path.{_≡_, ap, _∙_}
+use borrow.Author.Needs.{needs}
+use Rattle.rules.specs.Document01.Buses.{ppreOf, ppreFor, apbOf}
+use Rattle.rules.proofs.Agreement.Buses.{ppre-pos}
+use Rattle.prescaler.proofs.Zero.{zero, nonzero}
+use Rattle.prescaler.proofs.apb.Statement.{statement}
+use Rattle.prescaler.proofs.apb.Tie as tie
+
+is-zero-requires : tie.Need-is-zero-requires
+is-zero-requires c κs = search needs
+
+returns : tie.Need-returns
+unfolding apbOf
+returns c = rw (zero (c .before .before .args .requested) (c .before .is-zero .ensures) (c .if1 .taken))
+
+bus-ratio-requires : tie.Need-bus-ratio-requires
+bus-ratio-requires c κs = nonzero (c .before .before .args .requested) (c .before .is-zero .ensures) (c .if1 .left)
+
+ppre-of-requires : tie.Need-ppre-of-requires
+ppre-of-requires c κs = search needs
+
+div-pclk : tie.Need-div-pclk
+div-pclk c = rw (c .ppre-of .ensures) (ppre-pos (c .before .bus-ratio .result))
+
+returns-2 : tie.Need-returns-2
+unfolding apbOf
+returns-2 c =
+    let a = c .before .before .before .before .args in
+    let divisor : c .ppre-of .result ≡ ppreFor (a .hclk) (a .requested) = c .ppre-of .ensures ∙ ap ppreOf (c .before .bus-ratio .ensures) in
+    rw (nonzero (a .requested) (c .before .before .before .is-zero .ensures) (c .before .before .if1 .left), ← divisor)
+
+pub apb-spec : {M : Type 1} → statement M
+apb-spec = tie.close (tie.spec is-zero-requires returns bus-ratio-requires ppre-of-requires div-pclk returns-2)

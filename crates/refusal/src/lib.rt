@@ -1,0 +1,35 @@
+// The number of each refusal, as document 01 has it.
+ghost use mathlib.Core.Path.{_≡_};
+ghost use Rattle.rules.specs.Document01.Refusals.{numberOf};
+use types::Refusal;
+
+pub fn number_of(n: Refusal) -> u32
+    ensures { λ r. ⌜ r ≡ numberOf n ⌝ }
+{
+    match n {
+        Refusal::OutsideCodes => 1,
+        Refusal::BankLength => 2,
+        Refusal::AboveLimit => 3,
+        Refusal::McoHseUnstated => 4,
+        Refusal::Pll1PUnlikeSystem => 5,
+        Refusal::SourceZero => 6,
+        Refusal::OutputZero => 7,
+        Refusal::OutputsTooFarApart => 8,
+        Refusal::OutputTooHigh => 9,
+        Refusal::TargetOutside => 10,
+        Refusal::NoM => 11,
+        Refusal::NOutside => 12,
+        Refusal::FracnOutside => 13,
+        Refusal::PDividerAbove128 => 14,
+        Refusal::PDividerOdd => 15,
+        Refusal::HsiOff => 16,
+        Refusal::HsidivNot2 => 17,
+        Refusal::BusZero => 18,
+        Refusal::AhbZero => 19,
+        Refusal::Mco1Lse => 20,
+        Refusal::McoNoOutput => 21,
+        Refusal::McoZero => 22,
+        Refusal::McoRatio => 23,
+        Refusal::CsiDown => 24,
+    }
+}
