@@ -1,0 +1,13 @@
+-- `config::fills::with_p` meets its contract.
+use borrow.Author.Needs.{needs}
+use Rattle.config.proofs.fills.with_p.Statement.{statement}
+use Rattle.config.proofs.fills.with_p.Tie as tie
+
+returns : tie.Need-returns
+returns c = rw (c .if1 .taken)
+
+returns-2 : tie.Need-returns-2
+returns-2 c = search needs
+
+pub with-p-spec : {M : Type 1} → statement M
+with-p-spec = tie.close (tie.spec returns returns-2)

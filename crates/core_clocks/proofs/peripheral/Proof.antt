@@ -1,0 +1,25 @@
+-- `core_clocks::peripheral` meets its contract.
+use Rattle.rules.specs.Document01.Buses.{peripheralOf}
+use borrow.Author.Needs.{needs}
+use Rattle.core_clocks.proofs.peripheral.Statement.{statement}
+use Rattle.core_clocks.proofs.peripheral.Tie as tie
+
+enum-told : tie.Need-enum-told
+enum-told c = search needs
+
+enum-known-requested : tie.Need-enum-known-requested
+enum-known-requested c = search needs
+
+of-peripheral-requires : tie.Need-of-peripheral-requires
+of-peripheral-requires c κs = search needs
+
+returns : tie.Need-returns
+unfolding peripheralOf
+returns c = rw (c .enum-told .given .1)
+
+returns-2 : tie.Need-returns-2
+returns-2 c = rw (c .before .before .requested .given .1) (c .of-peripheral .ensures)
+
+pub peripheral-spec : {M : Type 1} → statement M
+peripheral-spec =
+    tie.close (tie.spec enum-told enum-known-requested of-peripheral-requires returns returns-2)

@@ -1,0 +1,51 @@
+// The buses one after the other.
+ghost use mathlib.Core.Path.{_≡_};
+ghost use Rattle.core_clocks.specs.CoreClocks as Spec;
+use crate::Buses;
+use crate::BusesAnswer;
+use prescaler::Bus;
+use prescaler::BusAnswer;
+use types::Hertz;
+
+// From AHB's answer.
+pub fn from_ahb(answer: BusAnswer, apb1: Hertz, apb2: Hertz, apb3: Hertz) -> BusesAnswer
+    ensures { λ r. ⌜ r ≡ Spec.busesAnswer (Spec.fromAhb (Spec.busOf answer) apb1 apb2 apb3) ⌝ }
+{
+    match answer {
+        BusAnswer::Refused(n) => BusesAnswer::Refused(n),
+        BusAnswer::Divided(ahb) => apbs(ahb, apb1, apb2, apb3),
+    }
+}
+
+fn apbs(ahb: Bus, apb1: Hertz, apb2: Hertz, apb3: Hertz) -> BusesAnswer
+    ensures { λ r. ⌜ r ≡ Spec.busesAnswer (Spec.apbsOf ahb apb1 apb2 apb3) ⌝ }
+{
+    let hclk = ahb.clock;
+    all(
+        ahb,
+        prescaler::apb(hclk, apb1),
+        prescaler::apb(hclk, apb2),
+        prescaler::apb(hclk, apb3),
+    )
+}
+
+// The first refusal, or all four.
+fn all(ahb: Bus, first: BusAnswer, second: BusAnswer, third: BusAnswer) -> BusesAnswer
+    ensures { λ r. ⌜ r ≡ Spec.busesAnswer (Spec.allOf ahb (Spec.busOf first) (Spec.busOf second) (Spec.busOf third)) ⌝ }
+{
+    match first {
+        BusAnswer::Refused(n) => BusesAnswer::Refused(n),
+        BusAnswer::Divided(apb1) => match second {
+            BusAnswer::Refused(n) => BusesAnswer::Refused(n),
+            BusAnswer::Divided(apb2) => match third {
+                BusAnswer::Refused(n) => BusesAnswer::Refused(n),
+                BusAnswer::Divided(apb3) => BusesAnswer::Divided(Buses {
+                    ahb,
+                    apb1,
+                    apb2,
+                    apb3,
+                }),
+            },
+        },
+    }
+}

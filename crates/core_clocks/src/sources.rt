@@ -1,0 +1,130 @@
+// The clock that a selector takes.
+ghost use mathlib.Core.Path.{_≡_};
+ghost use Rattle.rules.specs.Document01.Hertz as Hz;
+ghost use Rattle.rules.specs.Document01.OnePll as Rules;
+ghost use Rattle.rules.specs.Document01.Mco as Mco;
+ghost use Rattle.rules.specs.Document01.Buses as Step5;
+ghost use Rattle.core_clocks.specs.CoreClocks as Spec;
+use crate::Selected;
+use types::Hertz;
+use types::Mco1Source;
+use types::Mco2Source;
+use types::Pll;
+use types::PllOutput;
+use types::Refusal;
+
+// The clock of an MCO's source, or a refusal.
+pub enum Input {
+    Clock(u32),
+    Refused(Refusal),
+}
+
+pub fn hertz_or_0(h: Hertz) -> u32
+    ensures { λ r. ⌜ r ≡ Hz.hertzOr h 0 ⌝ }
+{
+    match h {
+        Hertz::Unset => 0,
+        Hertz::Hz(f) => f,
+    }
+}
+
+// An output's clock, where it is on.
+fn clock_of(output: PllOutput) -> Hertz
+    ensures { λ r. ⌜ r ≡ Rules.clockOf output ⌝ }
+{
+    match output {
+        PllOutput::Off => Hertz::Unset,
+        PllOutput::On(_, h) => Hertz::Hz(h),
+    }
+}
+
+pub fn p_clock(pll: Pll) -> Hertz
+    ensures { λ r. ⌜ r ≡ Rules.pClock pll ⌝ }
+{
+    match pll {
+        Pll::Idle => Hertz::Unset,
+        Pll::Runs(s) => {
+            let p = s.p;
+            clock_of(p)
+        }
+    }
+}
+
+fn q_clock(pll: Pll) -> Hertz
+    ensures { λ r. ⌜ r ≡ Rules.qClock pll ⌝ }
+{
+    match pll {
+        Pll::Idle => Hertz::Unset,
+        Pll::Runs(s) => {
+            let q = s.q;
+            clock_of(q)
+        }
+    }
+}
+
+// Refusal 21.
+fn planned(h: Hertz) -> Input
+    ensures { λ r. ⌜ r ≡ Spec.inputAnswer (Mco.planned h) ⌝ }
+{
+    match h {
+        Hertz::Unset => Input::Refused(Refusal::McoNoOutput),
+        Hertz::Hz(f) => Input::Clock(f),
+    }
+}
+
+// Refusals 20 and 21.
+pub fn mco1_input(source: Mco1Source, hse: Hertz, pll1: Pll) -> Input
+    ensures { λ r. ⌜ r ≡ Spec.inputAnswer (Mco.mco1Input source hse (Rules.qClock pll1)) ⌝ }
+{
+    match source {
+        Mco1Source::Hsi => Input::Clock(32_000_000),
+        Mco1Source::Lse => Input::Refused(Refusal::Mco1Lse),
+        Mco1Source::Hse => Input::Clock(hertz_or_0(hse)),
+        Mco1Source::Pll1Q => planned(q_clock(pll1)),
+        Mco1Source::Hsi48 => Input::Clock(48_000_000),
+    }
+}
+
+pub fn mco2_input(source: Mco2Source, system: u32, hse: Hertz, pll1: Pll, pll2: Pll) -> Input
+    ensures { λ r. ⌜ r ≡ Spec.inputAnswer (Mco.mco2Input source system hse (Rules.pClock pll1) (Rules.pClock pll2)) ⌝ }
+{
+    match source {
+        Mco2Source::Sysclk => Input::Clock(system),
+        Mco2Source::Pll2P => planned(p_clock(pll2)),
+        Mco2Source::Hse => Input::Clock(hertz_or_0(hse)),
+        Mco2Source::Pll1P => planned(p_clock(pll1)),
+        Mco2Source::Csi => Input::Clock(4_000_000),
+        Mco2Source::Lsi => Input::Clock(32_000),
+    }
+}
+
+// CSI at 4,000,000 Hz, else HSI.
+fn csi_or_hsi(h: u32) -> Selected
+    ensures { λ r. ⌜ r ≡ Spec.selected (Step5.csiOrHsi h) ⌝ }
+{
+    if h == 4_000_000 {
+        return Selected {
+            sel: 1,
+            clock: 4_000_000,
+        };
+    }
+    Selected {
+        sel: 0,
+        clock: 32_000_000,
+    }
+}
+
+// A peripheral clock that is requested.
+pub fn of_peripheral(h: u32, hse: Hertz) -> Selected
+    ensures { λ r. ⌜ r ≡ Spec.selected (Step5.peripheralOf (Spec.hertz h) hse) ⌝ }
+{
+    match hse {
+        Hertz::Unset => csi_or_hsi(h),
+        Hertz::Hz(e) => {
+            if h == e {
+                return Selected { sel: 2, clock: h };
+            }
+            csi_or_hsi(h)
+        }
+    }
+}
