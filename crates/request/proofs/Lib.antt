@@ -1,0 +1,4 @@
+pub mod Codes
+pub mod Chips
+pub mod Reading
+pub mod Writing

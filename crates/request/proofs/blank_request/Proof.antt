@@ -1,0 +1,13 @@
+-- `request::blank_request` meets its contract.
+use borrow.Author.Needs.{needs}
+use Rattle.request.proofs.blank_request.Statement.{statement}
+use Rattle.request.proofs.blank_request.Tie as tie
+
+no-part-requires : tie.Need-no-part-requires
+no-part-requires c κs = search needs
+
+returns : tie.Need-returns
+returns c = cc
+
+pub blank-request-spec : {M : Type 1} → statement M
+blank-request-spec = tie.close (tie.spec no-part-requires returns)

@@ -1,0 +1,33 @@
+-- `request::formed::clocks_ok` meets its contract.
+use borrow.Author.Needs.{needs}
+use Rattle.request.proofs.formed.clocks_ok.Statement.{statement}
+use Rattle.request.proofs.formed.clocks_ok.Tie as tie
+
+three-ok-requires : tie.Need-three-ok-requires
+three-ok-requires c κs = search needs
+
+three-ok-requires-2 : tie.Need-three-ok-requires-2
+three-ok-requires-2 c κs = search needs
+
+three-ok-requires-3 : tie.Need-three-ok-requires-3
+three-ok-requires-3 c κs = search needs
+
+both-requires : tie.Need-both-requires
+both-requires c κs = search needs
+
+both-requires-2 : tie.Need-both-requires-2
+both-requires-2 c κs = search needs
+
+returns : tie.Need-returns
+returns c = cc
+
+pub clocks-ok-spec : {M : Type 1} → statement M
+clocks-ok-spec =
+    tie.close
+    (tie.spec
+    three-ok-requires
+    three-ok-requires-2
+    three-ok-requires-3
+    both-requires
+    both-requires-2
+    returns)

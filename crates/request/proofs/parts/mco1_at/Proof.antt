@@ -1,0 +1,32 @@
+-- `request::parts::mco1_at` meets its contract.
+use native.Mathlib.Omega.{arith}
+use lib.ListN.{getD}
+use borrow.Author.Needs.{needs}
+use Rattle.request.proofs.Codes.{mco1-other}
+use Rattle.request.proofs.parts.mco1_at.Statement.{statement}
+use Rattle.request.proofs.parts.mco1_at.Tie as tie
+
+shared-slice-read-match : tie.Need-shared-slice-read-match
+shared-slice-read-match c = search needs
+
+returns : tie.Need-returns
+returns c = rw (c .match .keys1)
+
+returns-2 : tie.Need-returns-2
+returns-2 c = rw (c .match .keys2)
+
+returns-3 : tie.Need-returns-3
+returns-3 c = rw (c .match .keys3)
+
+returns-4 : tie.Need-returns-4
+returns-4 c = rw (c .match .keys4)
+
+returns-5 : tie.Need-returns-5
+returns-5 c =
+    let n = c .match .rest in
+    let a = c .before .before .args in
+    mco1-other (getD (a .b .now) (a .at) 0) (λ p. omega (arith, n .0 .0 .0 .1, n .0 .0 .1, n .0 .1, n .1))
+
+pub mco1-at-spec : {M : Type 1} → statement M
+mco1-at-spec =
+    tie.close (tie.spec shared-slice-read-match returns returns-2 returns-3 returns-4 returns-5)

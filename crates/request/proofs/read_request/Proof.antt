@@ -1,0 +1,88 @@
+-- `request::read_request` meets its contract.
+use mathlib.Core.Bool.{true}
+use mathlib.Core.Path.{_≡_, sym, ap, _∙_}
+use native.Mathlib.Omega.{arith}
+use borrow.Author.Tests.{not-true, not-false}
+use borrow.Author.Needs.{needs}
+use Rattle.types.specs.declared.ChipState.{ChipState}
+use Rattle.request.specs.Chips.{chipOk, stateOf}
+use Rattle.request.specs.Parts.{sizeOf}
+use Rattle.request.proofs.Reading.{all-bytes, bad-chip, bad-size, bad-form, taken}
+use Rattle.request.proofs.read_request.Statement.{statement}
+use Rattle.request.proofs.read_request.Tie as tie
+
+-- what holds of the chip and of the length on the way
+module _ (c : tie.After-size-of) where
+  good : chipOk (c .before .before .before .before .before .args .chip) ≡ true
+  good = sym (c .before .before .before .chip-ok .ensures) ∙ not-false _ (c .before .before .if1 .left)
+
+  count : c .before .state-of .result .three ≡ stateOf (c .before .before .before .before .before .args .chip) .three
+  count = ap (λ (x : ChipState). x .three) (c .before .state-of .ensures)
+
+  sized : c .size-of .result ≡ sizeOf (stateOf (c .before .before .before .before .before .args .chip) .three)
+  sized = c .size-of .ensures ∙ ap sizeOf count
+
+chip-ok-requires : tie.Need-chip-ok-requires
+chip-ok-requires c κs = search needs
+
+blank-requires : tie.Need-blank-requires
+blank-requires c κs = search needs
+
+returns : tie.Need-returns
+returns c = c .blank .ensures ∙ sym (bad-chip _ _ (sym (c .before .before .chip-ok .ensures) ∙ not-true _ (c .before .if1 .taken)))
+
+state-of-requires : tie.Need-state-of-requires
+state-of-requires c κs = search needs
+
+size-of-requires : tie.Need-size-of-requires
+size-of-requires c κs = search needs
+
+blank-requires-2 : tie.Need-blank-requires-2
+blank-requires-2 c κs = search needs
+
+returns-2 : tie.Need-returns-2
+returns-2 c =
+    let k = c .before .before in
+    let start = k .before .before .before .before in
+    let bytes = all-bytes (start .before .args .bytes .now) (λ i. omega (arith, start .shared-slice-known .given i)) in
+    c .blank2 .ensures ∙ sym (bad-size _ _ (good k) bytes (λ e. c .before .if2 .taken (e ∙ sym (sized k))))
+
+formed-requires : tie.Need-formed-requires
+formed-requires c κs = search needs
+
+blank-requires-3 : tie.Need-blank-requires-3
+blank-requires-3 c κs = search needs
+
+returns-3 : tie.Need-returns-3
+returns-3 c =
+    let e = c .before .before .before in
+    let k = e .before in
+    let bad = rw (count k) at (sym (c .before .before .formed .ensures) ∙ not-true _ (c .before .if3 .taken)) in
+    c .blank3 .ensures ∙ sym (bad-form _ _ (good k) (e .if2 .left ∙ sized k) bad)
+
+decode-requires : tie.Need-decode-requires
+decode-requires c κs = search needs
+
+returns-4 : tie.Need-returns-4
+returns-4 c =
+    let e = c .before .before .before in
+    let k = e .before in
+    let well = rw (count k) at (sym (c .before .before .formed .ensures) ∙ not-false _ (c .before .if3 .left)) in
+    rw (taken _ _ (good k) (e .if2 .left ∙ sized k) well, c .decode .ensures, k .before .state-of .ensures)
+
+pub read-request-spec : {M : Type 1} → statement M
+read-request-spec =
+    tie.close
+    (tie.spec
+    chip-ok-requires
+    blank-requires
+    returns
+    state-of-requires
+    size-of-requires
+    blank-requires-2
+    returns-2
+    formed-requires
+    blank-requires-3
+    returns-3
+    decode-requires
+    returns-4)

@@ -1,0 +1,4 @@
+pub mod Parts
+pub mod Chips
+pub mod Request
+pub mod Writing

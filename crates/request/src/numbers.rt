@@ -1,0 +1,86 @@
+// The chip's numbers: judged, and taken.
+ghost use mathlib.Core.Path.{_≡_};
+ghost use mathlib.Core.Bool.{_&&_, _||_};
+ghost use lib.Dec.{eqb, ltb};
+ghost use Rattle.rules.specs.Document01.Chip.{isHsidiv, scaleOf};
+ghost use Rattle.request.specs.Chips.{chipOk, oddsOk, stateOf};
+use types::Chip;
+use types::ChipState;
+use types::Scale;
+
+pub fn both(a: bool, b: bool) -> bool
+    ensures { λ r. ⌜ r ≡ (a && b) ⌝ }
+{
+    if a {
+        return b;
+    }
+    false
+}
+
+fn two_or_three(n: u32) -> bool
+    ensures { λ r. ⌜ r ≡ (eqb n 2 || eqb n 3) ⌝ }
+{
+    if n == 2 {
+        return true;
+    }
+    n == 3
+}
+
+// 1, 2, 4, 8.
+fn is_hsidiv(n: u32) -> bool
+    ensures { λ r. ⌜ r ≡ isHsidiv n ⌝ }
+{
+    if n == 1 {
+        return true;
+    }
+    if n == 2 {
+        return true;
+    }
+    if n == 4 {
+        return true;
+    }
+    n == 8
+}
+
+fn odds_ok(chip: Chip) -> bool
+    ensures { λ r. ⌜ r ≡ oddsOk chip ⌝ }
+{
+    both(chip.odd1 < 2, both(chip.odd2 < 2, chip.odd3 < 2))
+}
+
+// Whether each number is one of its codes.
+pub fn chip_ok(chip: Chip) -> bool
+    ensures { λ r. ⌜ r ≡ chipOk chip ⌝ }
+{
+    let divisor = is_hsidiv(chip.hsidiv);
+    let rest = both(chip.scale < 4, both(chip.hsion < 2, divisor));
+    let count = two_or_three(chip.plls);
+    both(count, both(odds_ok(chip), rest))
+}
+
+fn scale_of(n: u32) -> Scale
+    ensures { λ r. ⌜ r ≡ scaleOf n ⌝ }
+{
+    match n {
+        1 => Scale::Scale1,
+        2 => Scale::Scale2,
+        3 => Scale::Scale3,
+        _ => Scale::Scale0,
+    }
+}
+
+// The state that the numbers stand for.
+pub fn state_of(chip: Chip) -> ChipState
+    ensures { λ r. ⌜ r ≡ stateOf chip ⌝ }
+{
+    let scale = scale_of(chip.scale);
+    ChipState {
+        three: chip.plls == 3,
+        odd1: chip.odd1 == 1,
+        odd2: chip.odd2 == 1,
+        odd3: chip.odd3 == 1,
+        scale,
+        hsion: chip.hsion == 1,
+        hsidiv: chip.hsidiv,
+    }
+}
