@@ -17,7 +17,7 @@ use Rattle.rules.specs.Document01.Bytes.{noPart}
 use Rattle.rules.specs.Document01.Request.{limited, stated, forPll1Q, forPll1P, forPll2P, pll1Asked, pll2Asked, sourceOf, systemOf, needsPll1, withP, like, forSystemClock, sourced}
 use Rattle.config.specs.declared.Configured.{Configured}
 
--- refusals 3 to 6, and what PLL1 is asked for: the beginning of `pllsOf`
+-- One call, steps 1 to 3, with refusals 3 to 6, and what PLL1 is asked for. That `pllsOf` begins with it is proved in crates/rcc/proofs/Steps.antt
 unfoldable pub configOf : Request → Result PllRequest
 configOf q = do
   limited q
@@ -26,20 +26,21 @@ configOf q = do
   sourced q
   ok asked1
 
--- beside a refusal stands nothing
+-- a refusal of 3 to 6, with nothing beside it
 abbrev pub blank : Refusal → Configured
 blank n = record { answer = Refused n; source = 0; system = 0; needs = false; pll1 = noPart; pll2 = noPart }
 
--- the call's answer
+-- the call's answer: one refusal, or what steps 1 to 3 settle
 abbrev pub configured : Request → Result PllRequest → Configured
 configured q (refused n) = blank n
 configured q (ok a) = record { answer = Accepted; source = sourceOf q; system = systemOf q; needs = needsPll1 q; pll1 = a; pll2 = pll2Asked q }
 
 -- ---- for the private functions
--- step 2 for one PLL
+-- step 2 for PLL1: its P and its Q
 abbrev pub pll1With : PllRequest → Mco1Source → Hertz → Mco2Source → Hertz → PllRequest
 pll1With a source1 mco1 source2 mco2 = record { strategy = a .strategy; p = orElse (a .p) (forPll1P source2 mco2); q = orElse (a .q) (forPll1Q source1 mco1); r = a .r }
 
+-- step 2 for PLL2: its P alone
 abbrev pub pll2With : PllRequest → Mco2Source → Hertz → PllRequest
 pll2With a source2 mco2 = record { strategy = a .strategy; p = orElse (a .p) (forPll2P source2 mco2); q = a .q; r = a .r }
 

@@ -21,10 +21,11 @@ use Rattle.core_clocks.specs.declared.sources.Input.{Input}
 abbrev pub selected : Step5.Selected → Selected
 selected s = record { sel = s .sel; clock = s .clock }
 
--- steps 6 and 7: the four buses, or the refusal
+-- steps 6 and 7: a bus with its divisor
 abbrev pub bus : Step5.Bus → Bus
 bus b = record { pre = b .pre; clock = b .clock }
 
+-- steps 6 and 7: the four buses, or refusal 18 or 19
 abbrev pub busesAnswer : Result Plan.Buses → BusesAnswer
 busesAnswer (refused n) = BusesAnswer.Refused n
 busesAnswer (ok b) = BusesAnswer.Divided (record { ahb = bus (b .ahb); apb1 = bus (b .apb1); apb2 = bus (b .apb2); apb3 = bus (b .apb3) })
@@ -33,20 +34,22 @@ busesAnswer (ok b) = BusesAnswer.Divided (record { ahb = bus (b .ahb); apb1 = bu
 abbrev pub two : Pll → Pll → Plan.Plls
 two pll1 pll2 = record { pll1 = pll1; pll2 = pll2; pll3 = Idle }
 
--- step 8: the two clock outputs, or the refusal
+-- step 8: the two clock outputs, or a refusal of 20 to 23
 abbrev pub mcosAnswer : Result Plan.Mcos → McosAnswer
 mcosAnswer (refused n) = McosAnswer.Refused n
 mcosAnswer (ok m) = McosAnswer.Prescalers (record { mco1 = record { pre = m .mco1 .pre; clock = m .mco1 .clock }; mco2 = record { pre = m .mco2 .pre; clock = m .mco2 .clock } })
 
 -- ---- for the private functions
+-- step 5: a clock that is requested
 abbrev pub hertz : ℕ → Hertz
 hertz h = Hz h
 
--- an answer of `prescaler` read back
+-- steps 6 and 7: an answer of `prescaler` read back
 abbrev pub busOf : BusAnswer → Result Step5.Bus
 busOf (BusAnswer.Refused n) = refused n
 busOf (BusAnswer.Divided b) = ok (record { pre = b .pre; clock = b .clock })
 
+-- step 8: an output's answer, and the same read back
 abbrev pub mcoAnswer : Result Step8.Mco → McoAnswer
 mcoAnswer = Prescaler.mcoAnswer
 
@@ -54,7 +57,7 @@ abbrev pub mcoOf : McoAnswer → Result Step8.Mco
 mcoOf (McoAnswer.Refused n) = refused n
 mcoOf (McoAnswer.Prescaler m) = ok (record { pre = m .pre; clock = m .clock })
 
--- the clock of an MCO's source
+-- step 8: the clock of an MCO's source, with refusals 20 and 21, and the same read back
 abbrev pub inputAnswer : Result ℕ → Input
 inputAnswer (refused n) = Input.Refused n
 inputAnswer (ok c) = Input.Clock c
@@ -63,7 +66,7 @@ abbrev pub inputOf : Input → Result ℕ
 inputOf (Input.Refused n) = refused n
 inputOf (Input.Clock c) = ok c
 
--- the buses one after the other
+-- steps 6 and 7: the buses one after the other
 abbrev pub allOf : Bus → (apb1 apb2 apb3 : Result Step5.Bus) → Result Plan.Buses
 allOf ahb apb1 apb2 apb3 = do
   b1 ← apb1
@@ -79,7 +82,7 @@ fromAhb ahb apb1 apb2 apb3 = do
   b ← ahb
   apbsOf (bus b) apb1 apb2 apb3
 
--- the outputs one after the other
+-- step 8: the outputs one after the other
 abbrev pub outputOf : Result ℕ → Hertz → Result Step8.Mco
 outputOf input requested = do
   c ← input

@@ -28,23 +28,29 @@ use Rattle.rcc.specs.declared.plls.Plls.{Plls}
 use Rattle.rcc.specs.declared.plls.PllsAnswer.{PllsAnswer}
 use Rattle.rcc.specs.declared.codes.Waits.{Waits}
 
+-- the answer that steps come to, of crates/rules
 abbrev pub answered : Result Plan → Planned
 answered = Rules.answered
 
+-- one complete plan
 abbrev pub accepted : Plan → Planned
 accepted p = Rules.answered (ok p)
 
+-- one refusal
 abbrev pub refusedBy : Refusal → Result Plan
 refusedBy n = refused n
 
+-- step 3: the system clock, of crates/rules
 abbrev pub systemFrom : Request → Rules.Plls → ℕ
 systemFrom = Rules.systemFrom
 
 -- ---- what a callee answered, read back
+-- step 4: one PLL
 abbrev pub pllOf : PllAnswer → Result Pll
 pllOf (PllAnswer.Refused n) = refused n
 pllOf (PllAnswer.Planned x) = ok x
 
+-- step 4: the three PLLs
 abbrev pub plls : Plls → Rules.Plls
 plls l = record { pll1 = l .pll1; pll2 = l .pll2; pll3 = l .pll3 }
 
@@ -52,6 +58,7 @@ abbrev pub pllsOf : PllsAnswer → Result Rules.Plls
 pllsOf (PllsAnswer.Refused n) = refused n
 pllsOf (PllsAnswer.Planned l) = ok (plls l)
 
+-- steps 6 and 7: AHB and APB1 to 3
 abbrev pub buses : Buses → Rules.Buses
 buses b = record { ahb = record { pre = b .ahb .pre; clock = b .ahb .clock }; apb1 = record { pre = b .apb1 .pre; clock = b .apb1 .clock }; apb2 = record { pre = b .apb2 .pre; clock = b .apb2 .clock }; apb3 = record { pre = b .apb3 .pre; clock = b .apb3 .clock } }
 
@@ -59,6 +66,7 @@ abbrev pub busesOf : BusesAnswer → Result Rules.Buses
 busesOf (BusesAnswer.Refused n) = refused n
 busesOf (BusesAnswer.Divided b) = ok (buses b)
 
+-- step 8: MCO1 and MCO2
 abbrev pub mcos : Mcos → Rules.Mcos
 mcos m = record { mco1 = record { pre = m .mco1 .pre; clock = m .mco1 .clock }; mco2 = record { pre = m .mco2 .pre; clock = m .mco2 .clock } }
 
@@ -80,21 +88,25 @@ rest q c l = do
   Rules.hsiReady c
   finish q c l (Rules.busesOf q (Rules.systemFrom q l)) (Rules.mcosOf q l (Rules.systemFrom q l))
 
+-- from the PLLs on: refusals 7 to 15 before 16
 abbrev pub withPlls : Request → ChipState → Result Rules.Plls → Result Plan
 withPlls q c x = do
   l ← x
   rest q c l
 
 -- ---- the PLLs by their number, from 0
+-- step 4: the third is there on a chip that has one
 abbrev pub third : Bool → (odd : Bool) → (source : ℕ) → PllRequest → Result Pll
 third three odd source a = cond three (onePllOf odd source a) (ok Idle)
 
+-- step 4: PLL k with its permission for odd P
 abbrev pub numbered : ℕ → ChipState → (source : ℕ) → PllRequest → Result Pll
 numbered k c source a =
     cond (eqb k 0) (onePllOf (c .odd1) source a)
     (cond (eqb k 1) (onePllOf (c .odd2) source a)
     (third (c .three) (c .odd3) source a))
 
+-- step 4: PLLs in order
 abbrev pub all : (x y z : Result Pll) → Result Rules.Plls
 all x y z = do
   pll1 ← x
@@ -106,19 +118,23 @@ abbrev pub pllsAnswer : Result Rules.Plls → PllsAnswer
 pllsAnswer (refused n) = PllsAnswer.Refused n
 pllsAnswer (ok l) = PllsAnswer.Planned (record { pll1 = l .pll1; pll2 = l .pll2; pll3 = l .pll3 })
 
+-- the PLLs of a plan
 abbrev pub planPlls : Rules.Plls → List PllPlan
 planPlls l = record { pll = l .pll1 } ∷ record { pll = l .pll2 } ∷ record { pll = l .pll3 } ∷ []
 
 -- ---- wait states
+-- Flash: the scale's number
 abbrev pub scaleCode : Scale → ℕ
 scaleCode Scale0 = 0
 scaleCode Scale1 = 1
 scaleCode Scale2 = 2
 scaleCode Scale3 = 3
 
+-- Flash: latency and delay
 abbrev pub waits : Flash.Waits → Waits
 waits w = record { latency = w .latency; delay = w .delay }
 
+-- Flash: the same from flash_setup's answer; the first column for AHB 0 Hz, which 19 refuses
 abbrev pub waitsIn : FlashWaits → Waits
 waitsIn FlashWaits.Outside = record { latency = 0; delay = 0 }
 waitsIn (FlashWaits.Waits l d) = record { latency = l; delay = d }
