@@ -1,5 +1,2 @@
-pub mod Answered
-pub mod Back
-pub mod Parts
-pub mod Steps
-pub mod WaitStates
+pub mod Read
+pub mod Promised

@@ -1,92 +1,51 @@
-// The planner: from a request to one complete plan or one refusal. rcc.rs (freeze).
+// The planner's two calls, with the customer's three demands. rcc.rs (Config, freeze).
 ghost use mathlib.Core.Path.{_≡_};
-ghost use Rattle.rules.specs.Document01.Plan.{answerTo};
-ghost use Rattle.rules.specs.Document01.Request as Step;
-ghost use Rattle.rcc.specs.Rcc as Spec;
-use core_clocks::BusesAnswer;
-use core_clocks::McosAnswer;
-use types::Answer;
-use types::ChipState;
+ghost use lib.ListN.{length};
+ghost use Rattle.rules.specs.Document01.Plan.{planOf, bankPlanOf};
+ghost use Rattle.rules.specs.Document01.Entries.{entriesOf};
+ghost use Rattle.rules.specs.Document01.Bank.{applyAll};
+ghost use Rattle.rules.specs.Demands.Calls.{ByPlan, ByBank, Answered, Kept, AsFreeze, IsLegal, ReadTwice, BankReadTwice};
+use types::Chip;
 use types::Planned;
-use types::Pll;
-use types::PllRequest;
 use types::Refusal;
-use types::Request;
 
-mod assemble;
-mod codes;
-mod plls;
-
-// A typed request: steps 1 to 3, then the PLLs in order.
-pub fn answer_to(q: Request, c: ChipState) -> Planned
-    ensures { λ r. ⌜ r ≡ answerTo q c ⌝ }
+// The planner's call: the bytes of a request and the numbers of a chip to one complete plan or one refusal.
+pub fn plan(request: &[u8], chip: Chip) -> Planned
+    ensures rules { λ r. ⌜ r ≡ planOf (now (request .entry)) chip ⌝ }
+    ensures answered { λ r. ⌜ Answered ByPlan r ⌝ }
+    ensures freeze { λ r. ⌜ AsFreeze (now (request .entry)) chip r ⌝ }
+    ensures legal { λ r. ⌜ IsLegal (now (request .entry)) chip r ⌝ }
+    ensures readings { λ r. ⌜ ReadTwice (now (request .entry)) chip r ⌝ }
 {
-    let s = config::configure(q);
-    let answer = s.answer;
-    let pll1 = s.pll1;
-    let pll2 = s.pll2;
-    let plls = q.plls;
-    let pll3 = plls[2];
-    match answer {
-        Answer::Refused(n) => assemble::refused(n),
-        Answer::Accepted => with_plls(
-            q,
-            c,
-            s.needs,
-            s.source,
-            plls::all(c, s.source, pll1, pll2, pll3),
-        ),
+    let asked = request::read_request(request, chip);
+    let q = asked.request;
+    let c = asked.chip;
+    if asked.read {
+        return freeze::answer_to(q, c);
     }
+    freeze::refused(Refusal::OutsideCodes)
 }
 
-// Once the PLLs are planned.
-fn with_plls(q: Request, c: ChipState, needs: bool, source: u32, plls: plls::PllsAnswer) -> Planned
-    requires { ⌜ (needs ≡ Step.needsPll1 q) × (source ≡ Step.sourceOf q) ⌝ }
-    ensures { λ r. ⌜ r ≡ Spec.answered (Spec.withPlls q c (Spec.pllsOf plls)) ⌝ }
+// The bank call: the same, with the whole list applied to a lent bank of 82 words. It polls nothing.
+pub fn plan_bank(request: &[u8], chip: Chip, bank: &mut [u32]) -> Planned
+    ensures rules { λ r. ⌜ r ≡ bankPlanOf (now (request .entry)) chip (length (now (bank .entry))) ⌝ }
+    ensures bank { λ r. ⌜ now (bank .exit) ≡ applyAll (entriesOf r) (now (bank .entry)) ⌝ }
+    ensures kept { λ r. ⌜ Kept r (now (bank .entry)) (now (bank .exit)) ⌝ }
+    ensures answered { λ r. ⌜ Answered ByBank r ⌝ }
+    ensures freeze { λ r. ⌜ (length (now (bank .entry)) ≡ 82 → AsFreeze (now (request .entry)) chip r) ⌝ }
+    ensures legal { λ r. ⌜ IsLegal (now (request .entry)) chip r ⌝ }
+    ensures readings { λ r. ⌜ BankReadTwice (now (request .entry)) chip r (now (bank .entry)) (now (bank .exit)) ⌝ }
 {
-    match plls {
-        plls::PllsAnswer::Refused(n) => assemble::refused(n),
-        plls::PllsAnswer::Planned(l) => rest(q, c, needs, source, l),
+    let typed = request::read_request(request, chip);
+    if !typed.read {
+        return freeze::refused(Refusal::OutsideCodes);
     }
-}
-
-// Refusals 16 and 17, then the clocks behind the PLLs.
-fn rest(q: Request, c: ChipState, needs: bool, source: u32, l: plls::Plls) -> Planned
-    requires { ⌜ (needs ≡ Step.needsPll1 q) × (source ≡ Step.sourceOf q) ⌝ }
-    ensures { λ r. ⌜ r ≡ Spec.answered (Spec.rest q c (Spec.plls l)) ⌝ }
-{
-    if !c.hsion {
-        return assemble::refused(Refusal::HsiOff);
+    if bank.len() != 82 {
+        return freeze::refused(Refusal::BankLength);
     }
-    if c.hsidiv != 2 {
-        return assemble::refused(Refusal::HsidivNot2);
-    }
-    let pll1 = l.pll1;
-    let pll2 = l.pll2;
-    let system = core_clocks::system_from(needs, source, pll1);
-    let buses = core_clocks::bus_clocks(q, system);
-    let mcos = core_clocks::mco_clocks(q, pll1, pll2, system);
-    finish(q, c, needs, system, l, buses, mcos)
-}
-
-// The first refusal of the buses and the clock outputs, or the plan.
-fn finish(
-    q: Request,
-    c: ChipState,
-    needs: bool,
-    system: u32,
-    l: plls::Plls,
-    buses: BusesAnswer,
-    mcos: McosAnswer,
-) -> Planned
-    requires { ⌜ (needs ≡ Step.needsPll1 q) × (system ≡ Spec.systemFrom q (Spec.plls l)) ⌝ }
-    ensures { λ r. ⌜ r ≡ Spec.answered (Spec.finish q c (Spec.plls l) (Spec.busesOf buses) (Spec.mcosOf mcos)) ⌝ }
-{
-    match buses {
-        BusesAnswer::Refused(n) => assemble::refused(n),
-        BusesAnswer::Divided(b) => match mcos {
-            McosAnswer::Refused(n) => assemble::refused(n),
-            McosAnswer::Prescalers(m) => assemble::accepted(q, c, needs, system, l, b, m),
-        },
-    }
+    let q = typed.request;
+    let c = typed.chip;
+    let planned = freeze::answer_to(q, c);
+    registers::store(planned, bank);
+    planned
 }

@@ -3,3 +3,4 @@ pub mod Report
 pub mod Legal
 pub mod Agreement
 pub mod Readings
+pub mod Calls

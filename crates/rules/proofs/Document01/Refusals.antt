@@ -27,6 +27,7 @@ use Rattle.types.specs.declared.Plan.{Plan}
 use Rattle.types.specs.declared.Answer.the-variants.{Accepted, Refused}
 use Rattle.types.specs.declared.Planned.{Planned}
 use Rattle.ieee754.specs.Steps.{float, fracnOf}
+use Rattle.rules.specs.Demands.Calls.{Numbered}
 use Rattle.rules.specs.Document01.Result.{Result, refused, ok, _>>=_, _>>_, require}
 use Rattle.rules.specs.Document01.Refusals.{numberOf}
 use Rattle.rules.specs.Document01.Hertz.{isSet, notZero, hertzOr, ratioOf}
@@ -232,11 +233,6 @@ chosen-plan-only q c =
     (λ b. only-then Typed (mcosOf q l (systemFrom q l)) _ (mcos-only q l (systemFrom q l)) (λ m. tt))))
 
 -- what a caller reads off the answer
-pub record Numbered (low high : ℕ) (n : Refusal) : Type 0 where
-  pub from : low ≤ numberOf n
-  pub to : numberOf n ≤ high
-  pub not12 : numberOf n ≡ 12 → ⊥
-
 pub numbered : (n : Refusal) → Typed n → Numbered 3 23 n
 numbered n t =
     let rest : leb (numberOf n) 23 && not (eqb (numberOf n) 12) ≡ true = and-right (leb 3 (numberOf n)) _ t in

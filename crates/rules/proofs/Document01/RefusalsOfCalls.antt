@@ -17,8 +17,9 @@ use Rattle.rules.specs.Document01.Refusals.{numberOf}
 use Rattle.rules.specs.Document01.Chip.{isBit, isHsidiv, chipOf}
 use Rattle.rules.specs.Document01.Bytes.{Read, Reader, fits, byte, end, code, word, setTo, hertz, flag, mco1Source, mco2Source, strategy, pllPart, thirdPart, requestPart}
 use Rattle.rules.specs.Document01.Plan.{chosenPlan, answered, requestOf, planOf, bankPlanOf}
+use Rattle.rules.specs.Demands.Calls.{Numbered, ByPlan, ByBank}
 use Rattle.rules.proofs.Document01.Results.{Only, only-require, only-then, only-next}
-use Rattle.rules.proofs.Document01.Refusals.{Typed, chosen-plan-only, Numbered, numbered}
+use Rattle.rules.proofs.Document01.Refusals.{Typed, chosen-plan-only, numbered}
 
 -- ---- reading refuses with 1
 module _ (P : Refusal → Type 0) (one : P OutsideCodes) where
@@ -115,6 +116,9 @@ module _ (P : Refusal → Type 0) (one : P OutsideCodes) where
   unfolding requestOf
   asked-only bytes chip = only-then P (chipOf chip) _ (chip-only chip) (λ c. only-then P (requestPart (c .three) bytes) _ (request-only (c .three) bytes) (λ q. tt))
 
+pub outside-codes : (bytes : List ℕ) (chip : Chip) (n : Refusal) → requestOf bytes chip ≡ refused n → n ≡ OutsideCodes
+outside-codes bytes chip n e = subst (Only (λ m. m ≡ OutsideCodes)) e (asked-only (λ m. m ≡ OutsideCodes) refl bytes chip)
+
 -- ---- the calls
 more : (P Q : Refusal → Type 0) → ((n : Refusal) → P n → Q n) → {A : Type 0} (x : Result A) → Only P x → Only Q x
 more P Q f (refused n) h = f n h
@@ -124,10 +128,6 @@ read-off : (P : Refusal → Type 0) (x : Result Plan) (n : Refusal) → Only P x
 read-off P (refused m) n h e = let s : m ≡ n = cc in subst P s h
 read-off P (ok p) n h e = absurd (let z : _≡_ {A = ℕ} 0 1 = cc in omega arith)
 
--- 1, or 3 to 23 save 12
-abbrev pub ByPlan : Refusal → Type 0
-ByPlan n = (numberOf n ≡ 1) ⊎ Numbered 3 23 n
-
 plan-only : (bytes : List ℕ) (chip : Chip) → Only ByPlan (requestOf bytes chip >>= λ a. chosenPlan (a .request) (a .chip))
 plan-only bytes chip =
     only-then ByPlan (requestOf bytes chip) (λ a. chosenPlan (a .request) (a .chip)) (asked-only ByPlan (inl refl) bytes chip)
@@ -136,10 +136,6 @@ plan-only bytes chip =
 pub plan-numbers : (bytes : List ℕ) (chip : Chip) (n : Refusal) → planOf bytes chip .answer ≡ Refused n → ByPlan n
 unfolding planOf
 plan-numbers bytes chip n e = read-off ByPlan (requestOf bytes chip >>= λ a. chosenPlan (a .request) (a .chip)) n (plan-only bytes chip) e
-
--- 1, 2, or 3 to 23 save 12
-abbrev pub ByBank : Refusal → Type 0
-ByBank n = (numberOf n ≡ 2) ⊎ ByPlan n
 
 bank-only : (bytes : List ℕ) (chip : Chip) (words : ℕ) → Only ByBank (requestOf bytes chip >>= λ a. require (eqb words 82) BankLength >> chosenPlan (a .request) (a .chip))
 bank-only bytes chip words =

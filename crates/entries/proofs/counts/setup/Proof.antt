@@ -1,0 +1,22 @@
+-- `entries::counts::setup` meets its contract.
+use borrow.Author.Needs.{needs}
+use Rattle.entries.proofs.counts.setup.Statement.{statement}
+use Rattle.entries.proofs.counts.setup.Tie as tie
+
+enum-told : tie.Need-enum-told
+enum-told c = search needs
+
+enum-known-x : tie.Need-enum-known-x
+enum-known-x c = search needs
+
+setting-requires : tie.Need-setting-requires
+setting-requires c κs = search needs
+
+returns : tie.Need-returns
+returns c = search needs
+
+returns-2 : tie.Need-returns-2
+returns-2 c = rw (c .before .before .x .given .1) (c .setting .ensures)
+
+pub setup-spec : {M : Type 1} → statement M
+setup-spec = tie.close (tie.spec enum-told enum-known-x setting-requires returns returns-2)

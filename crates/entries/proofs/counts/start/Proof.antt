@@ -1,0 +1,22 @@
+-- `entries::counts::start` meets its contract.
+use borrow.Author.Needs.{needs}
+use Rattle.entries.proofs.counts.start.Statement.{statement}
+use Rattle.entries.proofs.counts.start.Tie as tie
+
+enum-told : tie.Need-enum-told
+enum-told c = search needs
+
+enum-known-x : tie.Need-enum-known-x
+enum-known-x c = search needs
+
+output-start-requires : tie.Need-output-start-requires
+output-start-requires c κs = search needs
+
+returns : tie.Need-returns
+returns c = search needs
+
+returns-2 : tie.Need-returns-2
+returns-2 c = rw (c .before .before .x .given .1) (c .output-start .ensures)
+
+pub start-spec : {M : Type 1} → statement M
+start-spec = tie.close (tie.spec enum-told enum-known-x output-start-requires returns returns-2)

@@ -1,0 +1,119 @@
+// Which word of the bank is which field, and what a field takes where the plan's own number is not stored as it is.
+ghost use mathlib.Core.Path.{_≡_};
+ghost use Prim.Native.Nat.{_-_};
+ghost use Rattle.rules.specs.Document01.Entries.{prftenOf, bit};
+
+// Document 01, Register entries: 15 fields per PLL. PLL k's words start at 15 * k, from PLL1 as 0.
+pub const VCOSEL: usize = 0;
+
+pub const RGE: usize = 1;
+
+pub const M: usize = 2;
+
+pub const N: usize = 3;
+
+pub const FRACN: usize = 4;
+
+pub const FRACEN: usize = 5;
+
+pub const P: usize = 6;
+
+pub const PEN: usize = 7;
+
+pub const Q: usize = 8;
+
+pub const QEN: usize = 9;
+
+pub const R: usize = 10;
+
+pub const REN: usize = 11;
+
+pub const SRC: usize = 12;
+
+pub const ON: usize = 13;
+
+pub const RDY: usize = 14;
+
+// Document 01, Register entries: the fields that are no PLL's, in the order of the list.
+pub const LSION: usize = 45;
+
+pub const LSIRDY: usize = 46;
+
+pub const WRHIGHFREQ: usize = 47;
+
+pub const LATENCY: usize = 48;
+
+pub const PRFTEN: usize = 49;
+
+pub const CSION: usize = 50;
+
+pub const CSIRDY: usize = 51;
+
+pub const HSI48ON: usize = 52;
+
+pub const HSI48RDY: usize = 53;
+
+pub const MCO1SEL: usize = 54;
+
+pub const MCO1PRE: usize = 55;
+
+pub const MCO2SEL: usize = 56;
+
+pub const MCO2PRE: usize = 57;
+
+pub const HSEON: usize = 58;
+
+pub const HSEBYP: usize = 59;
+
+pub const HSERDY: usize = 60;
+
+pub const HPRE: usize = 61;
+
+pub const PPRE1: usize = 62;
+
+pub const PPRE2: usize = 63;
+
+pub const PPRE3: usize = 64;
+
+pub const CKPERSEL: usize = 65;
+
+pub const TIMPRE: usize = 66;
+
+pub const SW: usize = 67;
+
+pub const SWS: usize = 68;
+
+pub const SBSEN: usize = 69;
+
+pub const EN1: usize = 70;
+
+pub const CS1: usize = 71;
+
+pub const EN2: usize = 72;
+
+pub const CS2: usize = 73;
+
+pub const RDY1: usize = 74;
+
+pub const RDY2: usize = 75;
+
+// N − 1, and divider − 1 for P, Q and R; 0 of 0.
+pub fn less_one(x: u32) -> u32
+    ensures { λ r. ⌜ r ≡ x - 1 ⌝ }
+{
+    if x == 0 { 0 } else { x - 1 }
+}
+
+// PRFTEN: 1 if latency is above 0.
+pub fn prften(latency: u32) -> u32
+    ensures { λ r. ⌜ r ≡ prftenOf latency ⌝ }
+{
+    if 0 < latency { 1 } else { 0 }
+}
+
+// HSEBYP: 1 with bypass.
+pub fn bit_of(b: bool) -> u32
+    ensures { λ r. ⌜ r ≡ bit b ⌝ }
+{
+    if b { 1 } else { 0 }
+}

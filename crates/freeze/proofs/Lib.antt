@@ -1,0 +1,5 @@
+pub mod Answered
+pub mod Back
+pub mod Parts
+pub mod Steps
+pub mod WaitStates

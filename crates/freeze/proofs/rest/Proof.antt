@@ -1,0 +1,67 @@
+-- `freeze::rest` meets its contract.
+use Rattle.core_clocks.specs.CoreClocks.{busesAnswer, mcosAnswer, two}
+use Rattle.rules.specs.Document01.Plan.{systemFrom, busesOf, mcosOf}
+use Rattle.freeze.specs.Freeze.{answered, plls}
+use borrow.Author.Tests.{eq-eqb, ne-eqb, not-true, not-false}
+use mathlib.Core.Path.{_≡_, _∙_, sym, ap}
+use Rattle.freeze.proofs.Back as Back
+use Rattle.freeze.proofs.Steps.{hsi-off, hsidiv, hsi-ready}
+use borrow.Author.Needs.{needs}
+use Rattle.freeze.proofs.rest.Statement.{statement}
+use Rattle.freeze.proofs.rest.Tie as tie
+
+module _ (k : tie.After-system-from) where
+  system : k .system-from .result ≡ systemFrom (k .before .before .before .before .before .args .q) (plls (k .before .before .before .before .before .args .l))
+  system = rw (← k .before .before .before .before .before .pre .0, ← k .before .before .before .before .before .pre .1) (k .system-from .ensures)
+
+refused-requires : tie.Need-refused-requires
+refused-requires c κs = search needs
+
+returns : tie.Need-returns
+returns c =
+    let a = c .before .before .before .args in
+    c .refused .ensures ∙ ap answered (sym (hsi-off (a .q) (a .c) (plls (a .l)) (not-true (a .c .hsion) (c .before .if1 .taken))))
+
+refused-requires-2 : tie.Need-refused-requires-2
+refused-requires-2 c κs = search needs
+
+returns-2 : tie.Need-returns-2
+returns-2 c =
+    let a = c .before .before .before .before .before .args in
+    c .refused2 .ensures ∙ ap answered (sym (hsidiv (a .q) (a .c) (plls (a .l)) (not-false (a .c .hsion) (c .before .before .before .if1 .left)) (ne-eqb (a .c .hsidiv) 2 (c .before .if2 .taken))))
+
+system-from-requires : tie.Need-system-from-requires
+system-from-requires c κs = search needs
+
+bus-clocks-requires : tie.Need-bus-clocks-requires
+bus-clocks-requires c κs = search needs
+
+mco-clocks-requires : tie.Need-mco-clocks-requires
+mco-clocks-requires c κs = search needs
+
+finish-requires : tie.Need-finish-requires
+finish-requires c κs = (c .before .before .before .before .before .before .before .pre .0, system (c .before .before))
+
+returns-3 : tie.Need-returns-3
+unfolding mcosOf
+returns-3 c =
+    let a = c .before .before .before .before .before .before .before .before .args in
+    let l = plls (a .l) in
+    let s = system (c .before .before .before) in
+    let x = Back.buses (busesOf (a .q) (systemFrom (a .q) l)) (c .before .before .bus-clocks .ensures ∙ ap (λ y. busesAnswer (busesOf (a .q) y)) s) in
+    let y = Back.mcos (mcosOf (a .q) l (systemFrom (a .q) l)) (c .before .mco-clocks .ensures ∙ ap (λ y. mcosAnswer (mcosOf (a .q) (two (a .l .pll1) (a .l .pll2)) y)) s) in
+    c .finish .ensures ∙ ap answered (Back.finish (a .q) (a .c) l x y ∙ sym (hsi-ready (a .q) (a .c) l (not-false (a .c .hsion) (c .before .before .before .before .before .before .if1 .left)) (eq-eqb (a .c .hsidiv) 2 (c .before .before .before .before .if2 .left))))
+
+pub rest-spec : {M : Type 1} → statement M
+rest-spec =
+    tie.close
+    (tie.spec
+    refused-requires
+    returns
+    refused-requires-2
+    returns-2
+    system-from-requires
+    bus-clocks-requires
+    mco-clocks-requires
+    finish-requires
+    returns-3)

@@ -1,0 +1,140 @@
+-- What the private functions answer, by document 01, One call, from the top.
+use mathlib.Core.Bool.{Bool, cond}
+use Prim.Native.Nat.{ℕ}
+use mathlib.Core.List.{List, [], _∷_}
+use lib.Dec.{eqb}
+use Rattle.types.specs.declared.Request.{Request}
+use Rattle.types.specs.declared.ChipState.{ChipState}
+use Rattle.types.specs.declared.Scale.{Scale}
+use Rattle.types.specs.declared.Scale.the-variants.{Scale0, Scale1, Scale2, Scale3}
+use Rattle.types.specs.declared.Refusal.{Refusal}
+use Rattle.types.specs.declared.PllRequest.{PllRequest}
+use Rattle.types.specs.declared.Pll.{Pll}
+use Rattle.types.specs.declared.Pll.the-variants.{Idle}
+use Rattle.types.specs.declared.PllPlan.{PllPlan}
+use Rattle.types.specs.declared.Plan.{Plan}
+use Rattle.types.specs.declared.Planned.{Planned}
+use Rattle.rules.specs.Document01.Result.{Result, refused, ok, _>>=_, _>>_}
+use Rattle.rules.specs.Document01.Flash as Flash
+use Rattle.rules.specs.Document01.Plan as Rules
+use Rattle.pll.specs.declared.PllAnswer.{PllAnswer}
+use Rattle.pll.specs.Answer.{onePllOf}
+use Rattle.flash.specs.declared.FlashWaits.{FlashWaits}
+use Rattle.core_clocks.specs.declared.Buses.{Buses}
+use Rattle.core_clocks.specs.declared.BusesAnswer.{BusesAnswer}
+use Rattle.core_clocks.specs.declared.Mcos.{Mcos}
+use Rattle.core_clocks.specs.declared.McosAnswer.{McosAnswer}
+use Rattle.freeze.specs.declared.plls.Plls.{Plls}
+use Rattle.freeze.specs.declared.plls.PllsAnswer.{PllsAnswer}
+use Rattle.freeze.specs.declared.codes.Waits.{Waits}
+
+-- the answer that steps come to, of crates/rules
+abbrev pub answered : Result Plan → Planned
+answered = Rules.answered
+
+-- one complete plan
+abbrev pub accepted : Plan → Planned
+accepted p = Rules.answered (ok p)
+
+-- one refusal
+abbrev pub refusedBy : Refusal → Result Plan
+refusedBy n = refused n
+
+-- step 3: the system clock, of crates/rules
+abbrev pub systemFrom : Request → Rules.Plls → ℕ
+systemFrom = Rules.systemFrom
+
+-- ---- what a callee answered, read back
+-- step 4: one PLL
+abbrev pub pllOf : PllAnswer → Result Pll
+pllOf (PllAnswer.Refused n) = refused n
+pllOf (PllAnswer.Planned x) = ok x
+
+-- step 4: the three PLLs
+abbrev pub plls : Plls → Rules.Plls
+plls l = record { pll1 = l .pll1; pll2 = l .pll2; pll3 = l .pll3 }
+
+abbrev pub pllsOf : PllsAnswer → Result Rules.Plls
+pllsOf (PllsAnswer.Refused n) = refused n
+pllsOf (PllsAnswer.Planned l) = ok (plls l)
+
+-- steps 6 and 7: AHB and APB1 to 3
+abbrev pub buses : Buses → Rules.Buses
+buses b = record { ahb = record { pre = b .ahb .pre; clock = b .ahb .clock }; apb1 = record { pre = b .apb1 .pre; clock = b .apb1 .clock }; apb2 = record { pre = b .apb2 .pre; clock = b .apb2 .clock }; apb3 = record { pre = b .apb3 .pre; clock = b .apb3 .clock } }
+
+abbrev pub busesOf : BusesAnswer → Result Rules.Buses
+busesOf (BusesAnswer.Refused n) = refused n
+busesOf (BusesAnswer.Divided b) = ok (buses b)
+
+-- step 8: MCO1 and MCO2
+abbrev pub mcos : Mcos → Rules.Mcos
+mcos m = record { mco1 = record { pre = m .mco1 .pre; clock = m .mco1 .clock }; mco2 = record { pre = m .mco2 .pre; clock = m .mco2 .clock } }
+
+abbrev pub mcosOf : McosAnswer → Result Rules.Mcos
+mcosOf (McosAnswer.Refused n) = refused n
+mcosOf (McosAnswer.Prescalers m) = ok (mcos m)
+
+-- ---- the steps from behind
+-- the plan, once buses and clock outputs are settled
+abbrev pub finish : Request → ChipState → Rules.Plls → Result Rules.Buses → Result Rules.Mcos → Result Plan
+finish q c l x y = do
+  b ← x
+  m ← y
+  ok (Rules.planWith q c l b m)
+
+-- from refusal 16 on
+abbrev pub rest : Request → ChipState → Rules.Plls → Result Plan
+rest q c l = do
+  Rules.hsiReady c
+  finish q c l (Rules.busesOf q (Rules.systemFrom q l)) (Rules.mcosOf q l (Rules.systemFrom q l))
+
+-- from the PLLs on: refusals 7 to 15 before 16
+abbrev pub withPlls : Request → ChipState → Result Rules.Plls → Result Plan
+withPlls q c x = do
+  l ← x
+  rest q c l
+
+-- ---- the PLLs by their number, from 0
+-- step 4: the third is there on a chip that has one
+abbrev pub third : Bool → (odd : Bool) → (source : ℕ) → PllRequest → Result Pll
+third three odd source a = cond three (onePllOf odd source a) (ok Idle)
+
+-- step 4: PLL k with its permission for odd P
+abbrev pub numbered : ℕ → ChipState → (source : ℕ) → PllRequest → Result Pll
+numbered k c source a =
+    cond (eqb k 0) (onePllOf (c .odd1) source a)
+    (cond (eqb k 1) (onePllOf (c .odd2) source a)
+    (third (c .three) (c .odd3) source a))
+
+-- step 4: PLLs in order
+abbrev pub all : (x y z : Result Pll) → Result Rules.Plls
+all x y z = do
+  pll1 ← x
+  pll2 ← y
+  pll3 ← z
+  ok (record { pll1 = pll1; pll2 = pll2; pll3 = pll3 })
+
+abbrev pub pllsAnswer : Result Rules.Plls → PllsAnswer
+pllsAnswer (refused n) = PllsAnswer.Refused n
+pllsAnswer (ok l) = PllsAnswer.Planned (record { pll1 = l .pll1; pll2 = l .pll2; pll3 = l .pll3 })
+
+-- the PLLs of a plan
+abbrev pub planPlls : Rules.Plls → List PllPlan
+planPlls l = record { pll = l .pll1 } ∷ record { pll = l .pll2 } ∷ record { pll = l .pll3 } ∷ []
+
+-- ---- wait states
+-- Flash: the scale's number
+abbrev pub scaleCode : Scale → ℕ
+scaleCode Scale0 = 0
+scaleCode Scale1 = 1
+scaleCode Scale2 = 2
+scaleCode Scale3 = 3
+
+-- Flash: latency and delay
+abbrev pub waits : Flash.Waits → Waits
+waits w = record { latency = w .latency; delay = w .delay }
+
+-- Flash: the same from flash_setup's answer; the first column for AHB 0 Hz, which 19 refuses
+abbrev pub waitsIn : FlashWaits → Waits
+waitsIn FlashWaits.Outside = record { latency = 0; delay = 0 }
+waitsIn (FlashWaits.Waits l d) = record { latency = l; delay = d }

@@ -1,0 +1,144 @@
+// A plan from what was chosen, and the blank plan beside a refusal.
+ghost use mathlib.Core.Path.{_≡_};
+ghost use Rattle.rules.specs.Document01.Request as Step;
+ghost use Rattle.rules.specs.Document01.Plan.{planWith};
+ghost use Rattle.freeze.specs.Freeze as Spec;
+use crate::codes;
+use crate::plls::Plls;
+use core_clocks::Buses;
+use core_clocks::Mcos;
+use types::Answer;
+use types::ChipState;
+use types::Hertz;
+use types::Plan;
+use types::Planned;
+use types::Pll;
+use types::PllPlan;
+use types::Refusal;
+use types::Request;
+
+pub fn refused(n: Refusal) -> Planned
+    ensures { λ r. ⌜ r ≡ Spec.answered (Spec.refusedBy n) ⌝ }
+{
+    let idle = PllPlan { pll: Pll::Idle };
+    let plan = Plan {
+        sys: 0,
+        hclk: 0,
+        pclk1: 0,
+        pclk2: 0,
+        pclk3: 0,
+        timx: 0,
+        timy: 0,
+        per: 0,
+        hsi: 0,
+        csi: 0,
+        hsi48: 0,
+        lsi: 0,
+        hse: Hertz::Unset,
+        lse: Hertz::Unset,
+        audio: Hertz::Unset,
+        mco1: Hertz::Unset,
+        mco2: Hertz::Unset,
+        three: false,
+        plls: [idle, idle, idle],
+        src: 0,
+        sw: 0,
+        bypass: false,
+        hpre: 0,
+        ppre1: 0,
+        ppre2: 0,
+        ppre3: 0,
+        ckpersel: 0,
+        mco1sel: 0,
+        mco1pre: 0,
+        mco2sel: 0,
+        mco2pre: 0,
+        latency: 0,
+        delay: 0,
+    };
+    Planned {
+        answer: Answer::Refused(n),
+        plan,
+    }
+}
+
+fn plan_plls(l: Plls) -> [PllPlan; 3]
+    ensures { λ r. ⌜ r ≡ Spec.planPlls (Spec.plls l) ⌝ }
+{
+    let pll1 = l.pll1;
+    let pll2 = l.pll2;
+    let pll3 = l.pll3;
+    [
+        PllPlan { pll: pll1 },
+        PllPlan { pll: pll2 },
+        PllPlan { pll: pll3 },
+    ]
+}
+
+pub fn accepted(
+    q: Request,
+    c: ChipState,
+    needs: bool,
+    sys: u32,
+    l: Plls,
+    b: Buses,
+    m: Mcos,
+) -> Planned
+    requires { ⌜ (needs ≡ Step.needsPll1 q) × (sys ≡ Spec.systemFrom q (Spec.plls l)) ⌝ }
+    ensures { λ r. ⌜ r ≡ Spec.accepted (planWith q c (Spec.plls l) (Spec.buses b) (Spec.mcos m)) ⌝ }
+{
+    let hse = q.hse;
+    let lse = q.lse;
+    let audio = q.audio;
+    let peripheral = q.peripheral;
+    let source1 = q.mco1source;
+    let source2 = q.mco2source;
+    let scale = c.scale;
+    let out1 = m.mco1;
+    let out2 = m.mco2;
+    let mco1 = out1.clock;
+    let mco2 = out2.clock;
+    let hclk = b.ahb.clock;
+    let plls = plan_plls(l);
+    let per = core_clocks::peripheral(peripheral, hse);
+    let waits = codes::wait_states(hclk, scale);
+    let plan = Plan {
+        sys,
+        hclk,
+        pclk1: b.apb1.clock,
+        pclk2: b.apb2.clock,
+        pclk3: b.apb3.clock,
+        timx: prescaler::timer(hclk, b.apb1.pre),
+        timy: prescaler::timer(hclk, b.apb2.pre),
+        per: per.clock,
+        hsi: 32_000_000,
+        csi: 4_000_000,
+        hsi48: 48_000_000,
+        lsi: 32_000,
+        hse,
+        lse,
+        audio,
+        mco1,
+        mco2,
+        three: c.three,
+        plls,
+        src: codes::src_of(hse),
+        sw: codes::sw_of(needs, hse),
+        bypass: q.bypass,
+        hpre: b.ahb.pre,
+        ppre1: b.apb1.pre,
+        ppre2: b.apb2.pre,
+        ppre3: b.apb3.pre,
+        ckpersel: per.sel,
+        mco1sel: codes::mco1_code(source1),
+        mco1pre: out1.pre,
+        mco2sel: codes::mco2_code(source2),
+        mco2pre: out2.pre,
+        latency: waits.latency,
+        delay: waits.delay,
+    };
+    Planned {
+        answer: Answer::Accepted,
+        plan,
+    }
+}

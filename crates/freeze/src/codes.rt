@@ -1,0 +1,93 @@
+// The numbers that stand in the fields of selectors.
+ghost use mathlib.Core.Path.{_≡_};
+ghost use Rattle.rules.specs.Document01.Mco as Mco;
+ghost use Rattle.rules.specs.Document01.Plan as Plan;
+ghost use Rattle.rules.specs.Document01.Flash.{flashOf};
+ghost use Rattle.freeze.specs.Freeze as Spec;
+use flash::FlashWaits;
+use types::Hertz;
+use types::Mco1Source;
+use types::Mco2Source;
+use types::Scale;
+
+pub fn mco1_code(source: Mco1Source) -> u32
+    ensures { λ r. ⌜ r ≡ Mco.mco1Code source ⌝ }
+{
+    match source {
+        Mco1Source::Hsi => 0,
+        Mco1Source::Lse => 1,
+        Mco1Source::Hse => 2,
+        Mco1Source::Pll1Q => 3,
+        Mco1Source::Hsi48 => 4,
+    }
+}
+
+pub fn mco2_code(source: Mco2Source) -> u32
+    ensures { λ r. ⌜ r ≡ Mco.mco2Code source ⌝ }
+{
+    match source {
+        Mco2Source::Sysclk => 0,
+        Mco2Source::Pll2P => 1,
+        Mco2Source::Hse => 2,
+        Mco2Source::Pll1P => 3,
+        Mco2Source::Csi => 4,
+        Mco2Source::Lsi => 5,
+    }
+}
+
+pub fn src_of(hse: Hertz) -> u32
+    ensures { λ r. ⌜ r ≡ Plan.srcOf hse ⌝ }
+{
+    match hse {
+        Hertz::Unset => 1,
+        Hertz::Hz(_) => 3,
+    }
+}
+
+pub fn sw_of(needs: bool, hse: Hertz) -> u32
+    ensures { λ r. ⌜ r ≡ Plan.swOf needs hse ⌝ }
+{
+    if needs {
+        return 3;
+    }
+    match hse {
+        Hertz::Unset => 0,
+        Hertz::Hz(_) => 2,
+    }
+}
+
+fn scale_code(scale: Scale) -> u32
+    ensures { λ r. ⌜ r ≡ Spec.scaleCode scale ⌝ }
+{
+    match scale {
+        Scale::Scale0 => 0,
+        Scale::Scale1 => 1,
+        Scale::Scale2 => 2,
+        Scale::Scale3 => 3,
+    }
+}
+
+// Latency and delay.
+pub struct Waits {
+    pub latency: u32,
+    pub delay: u32,
+}
+
+// AHB is never 0 Hz here, by refusal 19; the first column stands for it.
+fn waits_of(w: FlashWaits) -> Waits
+    ensures { λ r. ⌜ r ≡ Spec.waitsIn w ⌝ }
+{
+    match w {
+        FlashWaits::Outside => Waits {
+            latency: 0,
+            delay: 0,
+        },
+        FlashWaits::Waits(latency, delay) => Waits { latency, delay },
+    }
+}
+
+pub fn wait_states(ahb: u32, scale: Scale) -> Waits
+    ensures { λ r. ⌜ r ≡ Spec.waits (flashOf scale ahb) ⌝ }
+{
+    waits_of(flash::flash_setup(ahb, scale_code(scale)))
+}

@@ -1,0 +1,100 @@
+// From a typed request and the chip's state to one complete plan or one refusal of 3 to 23. rcc.rs (freeze).
+ghost use mathlib.Core.Path.{_≡_};
+ghost use Rattle.rules.specs.Document01.Plan.{answerTo, answered};
+ghost use Rattle.rules.specs.Document01.Result as Result;
+ghost use Rattle.rules.specs.Document01.Request as Step;
+ghost use Rattle.freeze.specs.Freeze as Spec;
+use core_clocks::BusesAnswer;
+use core_clocks::McosAnswer;
+use types::Answer;
+use types::ChipState;
+use types::Planned;
+use types::Pll;
+use types::PllRequest;
+use types::Refusal;
+use types::Request;
+
+mod assemble;
+mod codes;
+mod plls;
+
+// One refusal, with the blank plan beside it.
+pub fn refused(n: Refusal) -> Planned
+    ensures { λ r. ⌜ r ≡ answered (Result.refused n) ⌝ }
+{
+    assemble::refused(n)
+}
+
+// A typed request: steps 1 to 3, then the PLLs in order.
+pub fn answer_to(q: Request, c: ChipState) -> Planned
+    ensures { λ r. ⌜ r ≡ answerTo q c ⌝ }
+{
+    let s = config::configure(q);
+    let answer = s.answer;
+    let pll1 = s.pll1;
+    let pll2 = s.pll2;
+    let plls = q.plls;
+    let pll3 = plls[2];
+    match answer {
+        Answer::Refused(n) => assemble::refused(n),
+        Answer::Accepted => with_plls(
+            q,
+            c,
+            s.needs,
+            s.source,
+            plls::all(c, s.source, pll1, pll2, pll3),
+        ),
+    }
+}
+
+// Once the PLLs are planned.
+fn with_plls(q: Request, c: ChipState, needs: bool, source: u32, plls: plls::PllsAnswer) -> Planned
+    requires { ⌜ (needs ≡ Step.needsPll1 q) × (source ≡ Step.sourceOf q) ⌝ }
+    ensures { λ r. ⌜ r ≡ Spec.answered (Spec.withPlls q c (Spec.pllsOf plls)) ⌝ }
+{
+    match plls {
+        plls::PllsAnswer::Refused(n) => assemble::refused(n),
+        plls::PllsAnswer::Planned(l) => rest(q, c, needs, source, l),
+    }
+}
+
+// Refusals 16 and 17, then the clocks behind the PLLs.
+fn rest(q: Request, c: ChipState, needs: bool, source: u32, l: plls::Plls) -> Planned
+    requires { ⌜ (needs ≡ Step.needsPll1 q) × (source ≡ Step.sourceOf q) ⌝ }
+    ensures { λ r. ⌜ r ≡ Spec.answered (Spec.rest q c (Spec.plls l)) ⌝ }
+{
+    if !c.hsion {
+        return assemble::refused(Refusal::HsiOff);
+    }
+    if c.hsidiv != 2 {
+        return assemble::refused(Refusal::HsidivNot2);
+    }
+    let pll1 = l.pll1;
+    let pll2 = l.pll2;
+    let system = core_clocks::system_from(needs, source, pll1);
+    let buses = core_clocks::bus_clocks(q, system);
+    let mcos = core_clocks::mco_clocks(q, pll1, pll2, system);
+    finish(q, c, needs, system, l, buses, mcos)
+}
+
+// The first refusal of the buses and the clock outputs, or the plan.
+fn finish(
+    q: Request,
+    c: ChipState,
+    needs: bool,
+    system: u32,
+    l: plls::Plls,
+    buses: BusesAnswer,
+    mcos: McosAnswer,
+) -> Planned
+    requires { ⌜ (needs ≡ Step.needsPll1 q) × (system ≡ Spec.systemFrom q (Spec.plls l)) ⌝ }
+    ensures { λ r. ⌜ r ≡ Spec.answered (Spec.finish q c (Spec.plls l) (Spec.busesOf buses) (Spec.mcosOf mcos)) ⌝ }
+{
+    match buses {
+        BusesAnswer::Refused(n) => assemble::refused(n),
+        BusesAnswer::Divided(b) => match mcos {
+            McosAnswer::Refused(n) => assemble::refused(n),
+            McosAnswer::Prescalers(m) => assemble::accepted(q, c, needs, system, l, b, m),
+        },
+    }
+}

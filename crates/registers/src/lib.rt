@@ -1,0 +1,51 @@
+// What do the register entries of an answer store in the bank? Document 01, Register entries.
+ghost use mathlib.Core.Path.{_≡_};
+ghost use Rattle.rules.specs.Document01.Entries.{entriesOf, planEntries};
+ghost use Rattle.rules.specs.Document01.Bank.{applyAll};
+use types::Answer;
+use types::Plan;
+use types::Planned;
+
+mod words;
+
+// The bank becomes what the whole list leaves of it. A field past its end is not stored, and a refusal stores nothing.
+pub fn store(x: Planned, bank: &mut [u32])
+    ensures { λ r. ⌜ now (bank .exit) ≡ applyAll (entriesOf x) (now (bank .entry)) ⌝ }
+{
+    let answer = x.answer;
+    let plan = x.plan;
+    match answer {
+        Answer::Accepted => store_plan(plan, bank),
+        Answer::Refused(_) => {}
+    }
+}
+
+// The parts of the whole list, in order.
+fn store_plan(plan: Plan, bank: &mut [u32])
+    ensures { λ r. ⌜ now (bank .exit) ≡ applyAll (planEntries plan) (now (bank .entry)) ⌝ }
+{
+    let plls = plan.plls;
+    let hse = plan.hse;
+    words::set_up_all(plls, bank);
+    words::clocks(
+        plan.delay,
+        plan.latency,
+        plan.mco1sel,
+        plan.mco1pre,
+        plan.mco2sel,
+        plan.mco2pre,
+        bank,
+    );
+    words::hse_on(hse, plan.bypass, bank);
+    words::sources(plan.three, plan.src, bank);
+    words::start_all(plls, bank);
+    words::buses(
+        plan.hpre,
+        plan.ppre1,
+        plan.ppre2,
+        plan.ppre3,
+        plan.ckpersel,
+        plan.sw,
+        bank,
+    )
+}
