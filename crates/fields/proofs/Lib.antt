@@ -1,3 +1,4 @@
 pub mod Join
 pub mod Tails
 pub mod Whole
+pub mod Stores

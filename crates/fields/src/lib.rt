@@ -1,5 +1,6 @@
-// Which word of the bank is which field, and what a field takes where the plan's own number is not stored as it is.
+// Which word of the bank is which field, what a field takes where the plan's own number is not stored as it is, and storing one.
 ghost use mathlib.Core.Path.{_≡_};
+ghost use lib.ListN.{set};
 ghost use Prim.Native.Nat.{_-_};
 ghost use Rattle.rules.specs.Document01.Entries.{prftenOf, bit};
 
@@ -97,6 +98,15 @@ pub const RDY1: usize = 74;
 
 pub const RDY2: usize = 75;
 
+// Document 01, Register entries: the fields of Pwr::freeze, the last words of the bank.
+pub const VOS: usize = 78;
+
+pub const ACTVOS: usize = 79;
+
+pub const ACTVOSRDY: usize = 80;
+
+pub const VOSRDY: usize = 81;
+
 // N − 1, and divider − 1 for P, Q and R; 0 of 0.
 pub fn less_one(x: u32) -> u32
     ensures { λ r. ⌜ r ≡ x - 1 ⌝ }
@@ -116,4 +126,13 @@ pub fn bit_of(b: bool) -> u32
     ensures { λ r. ⌜ r ≡ bit b ⌝ }
 {
     if b { 1 } else { 0 }
+}
+
+// Applying an entry changes only the fields it sets: the word at f becomes v. A bank that has no word f stays.
+pub fn put(f: usize, v: u32, bank: &mut [u32])
+    ensures { λ r. ⌜ now (bank .exit) ≡ set (now (bank .entry)) f v ⌝ }
+{
+    if f < bank.len() {
+        bank[f] = v;
+    }
 }

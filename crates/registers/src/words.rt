@@ -13,15 +13,6 @@ use types::PllOutput;
 use types::PllPlan;
 use types::PllSettings;
 
-// Applying an entry changes only the fields it sets: the word at f becomes v. A bank that has no word f stays.
-fn put(f: usize, v: u32, bank: &mut [u32])
-    ensures { λ r. ⌜ now (bank .exit) ≡ set (now (bank .entry)) f v ⌝ }
-{
-    if f < bank.len() {
-        bank[f] = v;
-    }
-}
-
 // Two fields of an entry.
 fn put2(f: usize, v: u32, g: usize, w: u32, bank: &mut [u32])
     ensures { λ r. ⌜ now (bank .exit) ≡ set (set (now (bank .entry)) f v) g w ⌝ }

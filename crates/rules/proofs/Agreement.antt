@@ -16,3 +16,5 @@ pub mod Split
 pub mod Writes
 pub mod Whole
 pub mod Departures
+pub mod ResetReason
+pub mod Pwr

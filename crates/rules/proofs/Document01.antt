@@ -11,4 +11,6 @@ pub mod Layout
 pub mod Length
 pub mod Last
 pub mod Walk
+pub mod Voltage
 pub mod ResetReason
+pub mod Run

@@ -4,3 +4,4 @@ pub mod Legal
 pub mod Agreement
 pub mod Readings
 pub mod Calls
+pub mod Walks

@@ -17,3 +17,4 @@ pub mod Entries
 pub mod Bank
 pub mod Walk
 pub mod ResetReason
+pub mod Words

@@ -4,3 +4,5 @@ pub mod CoreClocks
 pub mod Pll
 pub mod Mco
 pub mod Rcc
+pub mod ResetReason
+pub mod Pwr

@@ -1,9 +1,11 @@
 -- Document 01, Register entries, last paragraph: the reset reason from the flags of a word, and the word to write back.
-use mathlib.Core.Bool.{Bool, true, false, cond}
+use mathlib.Core.Bool.{Bool, true, false, cond, _||_}
 use Prim.Native.Nat.{ℕ, _+_, _*_, _^_}
 use lib.Dec.{eqb}
 use Rattle.types.specs.declared.ResetReason.{ResetReason}
 use Rattle.types.specs.declared.ResetReason.the-variants.{PowerOnReset, PinReset, SystemReset, WindowWatchdogReset, IndependentWatchdogReset, GenericWatchdogReset, IllegalStopEntryReset, Unknown}
+use Rattle.types.specs.declared.Refusal.the-variants.{OutsideCodes}
+use Rattle.rules.specs.Document01.Result.{Result, ok, _>>_, require}
 use Rattle.rules.specs.Manual.ResetFlags.{RMVF, PIN, BOR, SFT, IWDG, WWDG, LPWR, bitOf}
 
 -- the six flags of a word, other bits left out
@@ -31,3 +33,14 @@ reasonOf false word = reasonBy (flagsOf word) word
 -- the word as read with RMVF set
 unfoldable pub writeBackOf : (word : ℕ) → ℕ
 writeBackOf word = cond (eqb (bitOf word RMVF) 1) word (word + 2 ^ RMVF)
+
+-- the answer to a word: the reason, and the word to write back
+pub record Told : Type 0 where
+  pub reason : ResetReason
+  pub writeBack : ℕ
+
+-- a PLL count that is neither 2 nor 3 is refused with 1
+unfoldable pub resetOf : (plls word : ℕ) → Result Told
+resetOf plls word = do
+  require (eqb plls 2 || eqb plls 3) OutsideCodes
+  ok (record { reason = reasonOf (eqb plls 3) word; writeBack = writeBackOf word })

@@ -2,11 +2,11 @@
 use mathlib.Core.Bool.{Bool, true, false, cond, _&&_}
 use mathlib.Core.List.{List, [], _∷_}
 use Prim.Native.Nat.{ℕ, _-_}
-use lib.Dec.{eqb}
+use lib.Dec.{eqb, ltb}
 use Rattle.types.specs.declared.Entry.{Entry}
 use Rattle.types.specs.declared.Entry.the-variants.{Set, Set2, Set3, Set4, Wait, Wait2, Check, Read}
 use Rattle.types.specs.declared.Refusal.{Refusal}
-use Rattle.types.specs.declared.Refusal.the-variants.{CsiDown}
+use Rattle.types.specs.declared.Refusal.the-variants.{OutsideCodes, CsiDown}
 use Rattle.types.specs.declared.Answer.{Answer}
 use Rattle.types.specs.declared.Answer.the-variants.{Accepted, Refused}
 use Rattle.types.specs.declared.Plan.{Plan}
@@ -47,16 +47,20 @@ passes (Wait2 f v g w) a b = eqb a v && eqb b w
 passes (Check f v) a b = eqb a v
 passes (Read f) a b = true
 
+-- a check
+abbrev pub isCheck : Entry → Bool
+isCheck (Set f v) = false
+isCheck (Set2 f v g w) = false
+isCheck (Set3 f v g w h x) = false
+isCheck (Set4 f v g w h x k y) = false
+isCheck (Wait f v) = false
+isCheck (Wait2 f v g w) = false
+isCheck (Check f v) = true
+isCheck (Read f) = false
+
 -- what an entry that is not passed leaves: a check ends the walk with 24, a wait is shown again
 abbrev pub held : Entry → List Entry → Stand
-held (Set f v) es = before (Set f v ∷ es)
-held (Set2 f v g w) es = before (Set2 f v g w ∷ es)
-held (Set3 f v g w h x) es = before (Set3 f v g w h x ∷ es)
-held (Set4 f v g w h x k y) es = before (Set4 f v g w h x k y ∷ es)
-held (Wait f v) es = before (Wait f v ∷ es)
-held (Wait2 f v g w) es = before (Wait2 f v g w ∷ es)
-held (Check f v) es = ended CsiDown
-held (Read f) es = before (Read f ∷ es)
+held e es = cond (isCheck e) (ended CsiDown) (before (e ∷ es))
 
 -- a step takes the values read. What is left after an entry is passed may depend on the value read. After finished or a refusal a step changes
 -- nothing
@@ -77,6 +81,10 @@ vosCode scale = 3 - scale
 -- a fresh voltage walk
 abbrev pub voltageFresh : Stand
 voltageFresh = before (Wait Fields.ACTVOSRDY 1 ∷ Read Fields.ACTVOS ∷ [])
+
+-- a fresh voltage walk to a target; a scale that is not 0 to 3 is refused with 1
+abbrev pub voltageTo : (target : ℕ) → Stand
+voltageTo target = cond (ltb target 4) voltageFresh (ended OutsideCodes)
 
 -- if not the target, set VOS and wait VOSRDY
 abbrev pub transition : (target read : ℕ) → List Entry

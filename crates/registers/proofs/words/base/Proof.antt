@@ -1,6 +1,6 @@
 -- `registers::words::base` meets its contract.
 use borrow.Author.Needs.{needs}
-use Rattle.registers.proofs.Stores.{next, nextAs}
+use Rattle.fields.proofs.Stores.{next, nextAs}
 use Rattle.registers.proofs.words.base.Statement.{statement}
 use Rattle.registers.proofs.words.base.Tie as tie
 

@@ -1,6 +1,6 @@
 -- `registers::words::buses` meets its contract.
 use borrow.Author.Needs.{needs}
-use Rattle.registers.proofs.Stores.{next, next2}
+use Rattle.fields.proofs.Stores.{next, next2}
 use Rattle.registers.proofs.words.buses.Statement.{statement}
 use Rattle.registers.proofs.words.buses.Tie as tie
 

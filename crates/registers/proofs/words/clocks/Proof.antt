@@ -1,6 +1,6 @@
 -- `registers::words::clocks` meets its contract.
 use borrow.Author.Needs.{needs}
-use Rattle.registers.proofs.Stores.{next, nextAs, next2}
+use Rattle.fields.proofs.Stores.{next, nextAs, next2}
 use Rattle.registers.proofs.words.clocks.Statement.{statement}
 use Rattle.registers.proofs.words.clocks.Tie as tie
 

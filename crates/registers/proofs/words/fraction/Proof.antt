@@ -1,6 +1,6 @@
 -- `registers::words::fraction` meets its contract.
 use borrow.Author.Needs.{needs}
-use Rattle.registers.proofs.Stores.{next}
+use Rattle.fields.proofs.Stores.{next}
 use Rattle.registers.proofs.words.fraction.Statement.{statement}
 use Rattle.registers.proofs.words.fraction.Tie as tie
 

@@ -1,7 +1,7 @@
 -- `registers::words::hse_on` meets its contract.
 use borrow.Author.Needs.{needs}
 use Rattle.rules.specs.Document01.Fields
-use Rattle.registers.proofs.Stores.{second2As}
+use Rattle.fields.proofs.Stores.{second2As}
 use Rattle.registers.proofs.words.hse_on.Statement.{statement}
 use Rattle.registers.proofs.words.hse_on.Tie as tie
 

@@ -1,6 +1,6 @@
 -- `registers::words::output` meets its contract.
 use borrow.Author.Needs.{needs}
-use Rattle.registers.proofs.Stores.{first2As}
+use Rattle.fields.proofs.Stores.{first2As}
 use Rattle.registers.proofs.words.output.Statement.{statement}
 use Rattle.registers.proofs.words.output.Tie as tie
 

@@ -1,6 +1,6 @@
 -- `registers::words::put2` meets its contract.
 use borrow.Author.Needs.{needs}
-use Rattle.registers.proofs.Stores.{next}
+use Rattle.fields.proofs.Stores.{next}
 use Rattle.registers.proofs.words.put2.Statement.{statement}
 use Rattle.registers.proofs.words.put2.Tie as tie
 

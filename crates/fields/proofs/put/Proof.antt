@@ -1,9 +1,9 @@
--- `registers::words::put` meets its contract: a field past the end is not stored.
+-- `fields::put` meets its contract: a field past the end is not stored.
 use mathlib.Core.Path.{sym}
 use lib.Seq.{set-out}
 use borrow.Author.Needs.{needs}
-use Rattle.registers.proofs.words.put.Statement.{statement}
-use Rattle.registers.proofs.words.put.Tie as tie
+use Rattle.fields.proofs.put.Statement.{statement}
+use Rattle.fields.proofs.put.Tie as tie
 
 mul-bank : tie.Need-mul-bank
 mul-bank c = search needs

@@ -1,0 +1,11 @@
+-- `walk::fresh` meets its contract.
+use mathlib.Core.Path.{refl}
+use Rattle.walk.proofs.Laws.{fresh-stands}
+use Rattle.walk.proofs.fresh.Statement.{statement}
+use Rattle.walk.proofs.fresh.Tie as tie
+
+returns : tie.Need-returns
+returns c = (refl, fresh-stands (c .args .planned))
+
+pub fresh-spec : {M : Type 1} → statement M
+fresh-spec = tie.close (tie.spec returns)
