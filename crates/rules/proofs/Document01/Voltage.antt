@@ -13,9 +13,9 @@ use Rattle.types.specs.declared.Refusal.the-variants.{OutsideCodes}
 use Rattle.types.specs.declared.Shown.{Shown}
 use Rattle.types.specs.declared.Shown.the-variants.{Next, Finished, Stopped}
 use Rattle.rules.specs.Document01.Fields
-use Rattle.rules.specs.Document01.Walk.{Stand, before, ended, shownOf, passes, vosCode, voltageFresh, voltageTo, transition, voltageStepped}
+use Rattle.rules.specs.Document01.Walk.{Stand, before, ended, shownOf, passes, vosCode, voltageFresh, voltageTo, transition, afterRead, voltageStepped}
 use Rattle.rules.specs.Demands.Walks.{Pair, shows, Satisfy}
-use Rattle.rules.proofs.Document01.Walk.{both}
+use Rattle.rules.proofs.Document01.Walk.{both, any-left, any-again}
 
 -- a fresh walk shows the wait for ACTVOSRDY before any step; to a target above 3 it shows refusal 1
 pub fresh-shows : (target : ℕ) → target < 4 → shownOf (voltageTo target) ≡ Next (Wait Fields.ACTVOSRDY 1)
@@ -27,10 +27,10 @@ fresh-refused target h = rw (le-ltb target 4 h)
 module _ (target : ℕ) where
   -- a wait is left only when its value shows, and else is shown again
   pub wait-left : (f v : ℕ) (es : List Entry) (a b : ℕ) → a ≡ v → voltageStepped target (before (Wait f v ∷ es)) a b ≡ before es
-  wait-left f v es a b e = rw (eq-eqb a v e)
+  wait-left = any-left (afterRead target)
 
   pub wait-again : (f v : ℕ) (es : List Entry) (a b : ℕ) → (a ≡ v → ⊥) → voltageStepped target (before (Wait f v ∷ es)) a b ≡ before (Wait f v ∷ es)
-  wait-again f v es a b n = rw (ne-eqb a v n)
+  wait-again = any-again (afterRead target)
 
   -- VOS is set exactly where the value read for ACTVOS is not the target's code
   pub not-set : (read : ℕ) → read ≡ vosCode target → transition target read ≡ []

@@ -15,7 +15,7 @@ use Rattle.types.specs.declared.Refusal.the-variants.{CsiDown}
 use Rattle.types.specs.declared.Shown.{Shown}
 use Rattle.types.specs.declared.Shown.the-variants.{Next, Finished, Stopped}
 use Rattle.rules.specs.Document01.Fields
-use Rattle.rules.specs.Document01.Walk.{Stand, before, ended, shownOf, passes, isCheck, held, steppedOf, voltageFresh, voltageStepped}
+use Rattle.rules.specs.Document01.Walk.{Stand, before, ended, shownOf, passes, isCheck, steppedBy, steppedOf, voltageFresh, voltageStepped}
 use Rattle.rules.specs.Demands.Walks.{Pair, after, shows, isWait, Always, Through, entryIn, once, Satisfy}
 
 -- ---- after finished or a refusal, a step changes nothing, and the same is shown
@@ -100,11 +100,19 @@ not-sooner (e ∷ es) (r ∷ rs) h = go (passes e (r .a) (r .b)) (isCheck e) (no
     go false false next again h = let l = again h in omega arith
 
 -- ---- a wait is left only when all its values show together
+-- of any walk, whatever it leaves after an entry
+module _ (left : Entry → ℕ → List Entry → List Entry) (f v : ℕ) (es : List Entry) (a b : ℕ) where
+  pub any-left : a ≡ v → steppedBy left (before (Wait f v ∷ es)) a b ≡ before (left (Wait f v) a es)
+  any-left h = rw (eq-eqb a v h)
+
+  pub any-again : a ≢ v → steppedBy left (before (Wait f v ∷ es)) a b ≡ before (Wait f v ∷ es)
+  any-again h = rw (ne-eqb a v h)
+
 pub wait-left : (f v : ℕ) (es : List Entry) (a b : ℕ) → a ≡ v → steppedOf (before (Wait f v ∷ es)) a b ≡ before es
-wait-left f v es a b h = rw (eq-eqb a v h)
+wait-left = any-left (λ e a es. es)
 
 pub wait-again : (f v : ℕ) (es : List Entry) (a b : ℕ) → a ≢ v → steppedOf (before (Wait f v ∷ es)) a b ≡ before (Wait f v ∷ es)
-wait-again f v es a b h = rw (ne-eqb a v h)
+wait-again = any-again (λ e a es. es)
 
 pub wait2-left : (f v g w : ℕ) (es : List Entry) (a b : ℕ) → a ≡ v → b ≡ w → steppedOf (before (Wait2 f v g w ∷ es)) a b ≡ before es
 wait2-left f v g w es a b h k = rw (eq-eqb a v h, eq-eqb b w k)

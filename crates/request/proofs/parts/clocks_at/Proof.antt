@@ -31,7 +31,8 @@ hertz-at-requires-9 : tie.Need-hertz-at-requires-9
 hertz-at-requires-9 c κs = search needs
 
 returns : tie.Need-returns
-returns c = cc
+returns c =
+    rw (c .hertz-at9 .ensures, c .before .hertz-at8 .ensures, c .before .before .hertz-at7 .ensures, c .before .before .before .hertz-at6 .ensures, c .before .before .before .before .hertz-at5 .ensures, c .before .before .before .before .before .hertz-at4 .ensures, c .before .before .before .before .before .before .hertz-at3 .ensures, c .before .before .before .before .before .before .before .hertz-at2 .ensures, c .before .before .before .before .before .before .before .before .hertz-at .ensures)
 
 pub clocks-at-spec : {M : Type 1} → statement M
 clocks-at-spec =
