@@ -1,1 +1,2 @@
 mod System
+mod Codes

@@ -36,6 +36,10 @@ configured q (refused n) = blank n
 configured q (ok a) = record { answer = Accepted; source = sourceOf q; system = systemOf q; needs = needsPll1 q; pll1 = a; pll2 = pll2Asked q }
 
 -- ---- for the private functions
+-- what an MCO is asked for, where it is fed from here
+abbrev pub fed : Bool → Hertz → Hertz
+fed from mco = cond from mco Unset
+
 -- step 2 for PLL1: its P and its Q
 abbrev pub pll1With : PllRequest → Mco1Source → Hertz → Mco2Source → Hertz → PllRequest
 pll1With a source1 mco1 source2 mco2 = record { strategy = a .strategy; p = orElse (a .p) (forPll1P source2 mco2); q = orElse (a .q) (forPll1Q source1 mco1); r = a .r }

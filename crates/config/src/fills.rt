@@ -1,6 +1,7 @@
 // Steps 2 and 3: what an MCO fills, and PLL1 P where the system clock needs it.
 ghost use mathlib.Core.Path.{_≡_};
 ghost use Rattle.rules.specs.Document01.Hertz as Hz;
+ghost use Rattle.rules.specs.Document01.Mco as Mco;
 ghost use Rattle.rules.specs.Document01.Request as Rules;
 ghost use Rattle.config.specs.Config as Config;
 use types::Hertz;
@@ -17,65 +18,51 @@ pub fn hertz_or(h: Hertz, other: u32) -> u32
     }
 }
 
-fn or_else(h: Hertz, other: Hertz) -> Hertz
-    ensures { λ r. ⌜ r ≡ Hz.orElse h other ⌝ }
+// MCO1's source as a number.
+pub fn mco1_code(s: Mco1Source) -> u32
+    ensures { λ r. ⌜ r ≡ Mco.mco1Code s ⌝ }
 {
-    match h {
-        Hertz::Unset => other,
-        Hertz::Hz(f) => Hertz::Hz(f),
+    match s {
+        Mco1Source::Hsi => 0,
+        Mco1Source::Lse => 1,
+        Mco1Source::Hse => 2,
+        Mco1Source::Pll1Q => 3,
+        Mco1Source::Hsi48 => 4,
     }
+}
+
+// MCO2's source as a number.
+pub fn mco2_code(s: Mco2Source) -> u32
+    ensures { λ r. ⌜ r ≡ Mco.mco2Code s ⌝ }
+{
+    match s {
+        Mco2Source::Sysclk => 0,
+        Mco2Source::Pll2P => 1,
+        Mco2Source::Hse => 2,
+        Mco2Source::Pll1P => 3,
+        Mco2Source::Csi => 4,
+        Mco2Source::Lsi => 5,
+    }
+}
+
+// What is requested, else what the MCO is asked for if it is fed from here.
+fn fill(own: Hertz, from: bool, mco: Hertz) -> Hertz
+    ensures { λ r. ⌜ r ≡ Hz.orElse own (Config.fed from mco) ⌝ }
+{
+    if let Hertz::Hz(f) = own {
+        return Hertz::Hz(f);
+    }
+    if from {
+        return mco;
+    }
+    Hertz::Unset
 }
 
 // The system clock, filled by MCO2 from Sysclk.
 pub fn system_asked(system: Hertz, source: Mco2Source, mco2: Hertz) -> Hertz
     ensures { λ r. ⌜ r ≡ Hz.orElse system (Rules.forSystem source mco2) ⌝ }
 {
-    match source {
-        Mco2Source::Sysclk => or_else(system, mco2),
-        Mco2Source::Pll2P => or_else(system, Hertz::Unset),
-        Mco2Source::Hse => or_else(system, Hertz::Unset),
-        Mco2Source::Pll1P => or_else(system, Hertz::Unset),
-        Mco2Source::Csi => or_else(system, Hertz::Unset),
-        Mco2Source::Lsi => or_else(system, Hertz::Unset),
-    }
-}
-
-fn for_pll1p(source: Mco2Source, mco2: Hertz) -> Hertz
-    ensures { λ r. ⌜ r ≡ Rules.forPll1P source mco2 ⌝ }
-{
-    match source {
-        Mco2Source::Pll1P => mco2,
-        Mco2Source::Sysclk => Hertz::Unset,
-        Mco2Source::Pll2P => Hertz::Unset,
-        Mco2Source::Hse => Hertz::Unset,
-        Mco2Source::Csi => Hertz::Unset,
-        Mco2Source::Lsi => Hertz::Unset,
-    }
-}
-
-fn for_pll1q(source: Mco1Source, mco1: Hertz) -> Hertz
-    ensures { λ r. ⌜ r ≡ Rules.forPll1Q source mco1 ⌝ }
-{
-    match source {
-        Mco1Source::Pll1Q => mco1,
-        Mco1Source::Hsi => Hertz::Unset,
-        Mco1Source::Lse => Hertz::Unset,
-        Mco1Source::Hse => Hertz::Unset,
-        Mco1Source::Hsi48 => Hertz::Unset,
-    }
-}
-
-fn for_pll2p(source: Mco2Source, mco2: Hertz) -> Hertz
-    ensures { λ r. ⌜ r ≡ Rules.forPll2P source mco2 ⌝ }
-{
-    match source {
-        Mco2Source::Pll2P => mco2,
-        Mco2Source::Sysclk => Hertz::Unset,
-        Mco2Source::Hse => Hertz::Unset,
-        Mco2Source::Pll1P => Hertz::Unset,
-        Mco2Source::Csi => Hertz::Unset,
-        Mco2Source::Lsi => Hertz::Unset,
-    }
+    fill(system, mco2_code(source) == 0, mco2)
 }
 
 // PLL1, its P and Q filled.
@@ -92,8 +79,8 @@ pub fn pll1_asked(
     let own_p = a.p;
     let own_q = a.q;
     let r = a.r;
-    let p = or_else(own_p, for_pll1p(source2, mco2));
-    let q = or_else(own_q, for_pll1q(source1, mco1));
+    let p = fill(own_p, mco2_code(source2) == 3, mco2);
+    let q = fill(own_q, mco1_code(source1) == 3, mco1);
     PllRequest { strategy, p, q, r }
 }
 
@@ -105,7 +92,7 @@ pub fn pll2_asked(a: PllRequest, source2: Mco2Source, mco2: Hertz) -> PllRequest
     let own_p = a.p;
     let q = a.q;
     let r = a.r;
-    let p = or_else(own_p, for_pll2p(source2, mco2));
+    let p = fill(own_p, mco2_code(source2) == 1, mco2);
     PllRequest { strategy, p, q, r }
 }
 

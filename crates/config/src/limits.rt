@@ -3,6 +3,7 @@ ghost use mathlib.Core.Path.{_≡_};
 ghost use mathlib.Core.Bool.{not, _&&_, _||_};
 ghost use Rattle.rules.specs.Document01.Hertz.{isSet};
 ghost use Rattle.rules.specs.Document01.Request as Rules;
+use crate::fills;
 use types::Hertz;
 use types::Mco1Source;
 use types::Mco2Source;
@@ -20,41 +21,7 @@ fn within(h: Hertz) -> bool
 pub fn limited(system: Hertz, ahb: Hertz, apb1: Hertz, apb2: Hertz, apb3: Hertz) -> bool
     ensures { λ r. ⌜ r ≡ Rules.within system && (Rules.within ahb && (Rules.within apb1 && (Rules.within apb2 && Rules.within apb3))) ⌝ }
 {
-    if within(system) {
-        if within(ahb) {
-            if within(apb1) {
-                if within(apb2) {
-                    return within(apb3);
-                }
-            }
-        }
-    }
-    false
-}
-
-fn from_hse1(s: Mco1Source) -> bool
-    ensures { λ r. ⌜ r ≡ Rules.fromHse1 s ⌝ }
-{
-    match s {
-        Mco1Source::Hse => true,
-        Mco1Source::Hsi => false,
-        Mco1Source::Lse => false,
-        Mco1Source::Pll1Q => false,
-        Mco1Source::Hsi48 => false,
-    }
-}
-
-fn from_hse2(s: Mco2Source) -> bool
-    ensures { λ r. ⌜ r ≡ Rules.fromHse2 s ⌝ }
-{
-    match s {
-        Mco2Source::Hse => true,
-        Mco2Source::Sysclk => false,
-        Mco2Source::Pll2P => false,
-        Mco2Source::Pll1P => false,
-        Mco2Source::Csi => false,
-        Mco2Source::Lsi => false,
-    }
+    within(system) & (within(ahb) & (within(apb1) & (within(apb2) & within(apb3))))
 }
 
 // An MCO from HSE has HSE stated.
@@ -64,8 +31,8 @@ pub fn stated(hse: Hertz, source1: Mco1Source, source2: Mco2Source) -> bool
     if let Hertz::Hz(_) = hse {
         return true;
     }
-    if from_hse1(source1) {
+    if fills::mco1_code(source1) == 2 {
         return false;
     }
-    !from_hse2(source2)
+    fills::mco2_code(source2) != 2
 }

@@ -12,8 +12,12 @@ pub fn from_ahb(answer: BusAnswer, apb1: Hertz, apb2: Hertz, apb3: Hertz) -> Bus
     ensures { λ r. ⌜ r ≡ Spec.busesAnswer (Spec.fromAhb (Spec.busOf answer) apb1 apb2 apb3) ⌝ }
 {
     match answer {
-        BusAnswer::Refused(n) => BusesAnswer::Refused(n),
-        BusAnswer::Divided(ahb) => apbs(ahb, apb1, apb2, apb3),
+        BusAnswer::Refused(n) => {
+            return BusesAnswer::Refused(n);
+        }
+        BusAnswer::Divided(ahb) => {
+            return apbs(ahb, apb1, apb2, apb3);
+        }
     }
 }
 
@@ -34,17 +38,25 @@ fn all(ahb: Bus, first: BusAnswer, second: BusAnswer, third: BusAnswer) -> Buses
     ensures { λ r. ⌜ r ≡ Spec.busesAnswer (Spec.allOf ahb (Spec.busOf first) (Spec.busOf second) (Spec.busOf third)) ⌝ }
 {
     match first {
-        BusAnswer::Refused(n) => BusesAnswer::Refused(n),
+        BusAnswer::Refused(n) => {
+            return BusesAnswer::Refused(n);
+        }
         BusAnswer::Divided(apb1) => match second {
-            BusAnswer::Refused(n) => BusesAnswer::Refused(n),
+            BusAnswer::Refused(n) => {
+                return BusesAnswer::Refused(n);
+            }
             BusAnswer::Divided(apb2) => match third {
-                BusAnswer::Refused(n) => BusesAnswer::Refused(n),
-                BusAnswer::Divided(apb3) => BusesAnswer::Divided(Buses {
-                    ahb,
-                    apb1,
-                    apb2,
-                    apb3,
-                }),
+                BusAnswer::Refused(n) => {
+                    return BusesAnswer::Refused(n);
+                }
+                BusAnswer::Divided(apb3) => {
+                    return BusesAnswer::Divided(Buses {
+                        ahb,
+                        apb1,
+                        apb2,
+                        apb3,
+                    });
+                }
             },
         },
     }

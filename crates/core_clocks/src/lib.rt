@@ -90,7 +90,10 @@ pub fn mco_clocks(q: Request, pll1: Pll, pll2: Pll, system: u32) -> McosAnswer
     let source2 = q.mco2source;
     let mco1 = q.mco1;
     let mco2 = q.mco2;
-    let first = mco::output(sources::mco1_input(source1, hse, pll1), mco1);
-    let second = mco::output(sources::mco2_input(source2, system, hse, pll1, pll2), mco2);
+    let q1 = sources::q_clock(pll1);
+    let p1 = sources::p_clock(pll1);
+    let p2 = sources::p_clock(pll2);
+    let first = mco::output(sources::mco1_input(source1, hse, q1), mco1);
+    let second = mco::output(sources::mco2_input(source2, system, hse, p1, p2), mco2);
     mco::both(first, second)
 }

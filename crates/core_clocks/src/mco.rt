@@ -12,8 +12,12 @@ pub fn output(input: Input, requested: Hertz) -> McoAnswer
     ensures { λ r. ⌜ r ≡ Spec.mcoAnswer (Spec.outputOf (Spec.inputOf input) requested) ⌝ }
 {
     match input {
-        Input::Refused(n) => McoAnswer::Refused(n),
-        Input::Clock(clock) => prescaler::mco(clock, requested),
+        Input::Refused(n) => {
+            return McoAnswer::Refused(n);
+        }
+        Input::Clock(clock) => {
+            return prescaler::mco(clock, requested);
+        }
     }
 }
 
@@ -22,10 +26,16 @@ pub fn both(first: McoAnswer, second: McoAnswer) -> McosAnswer
     ensures { λ r. ⌜ r ≡ Spec.mcosAnswer (Spec.bothOf (Spec.mcoOf first) (Spec.mcoOf second)) ⌝ }
 {
     match first {
-        McoAnswer::Refused(n) => McosAnswer::Refused(n),
+        McoAnswer::Refused(n) => {
+            return McosAnswer::Refused(n);
+        }
         McoAnswer::Prescaler(mco1) => match second {
-            McoAnswer::Refused(n) => McosAnswer::Refused(n),
-            McoAnswer::Prescaler(mco2) => McosAnswer::Prescalers(Mcos { mco1, mco2 }),
+            McoAnswer::Refused(n) => {
+                return McosAnswer::Refused(n);
+            }
+            McoAnswer::Prescaler(mco2) => {
+                return McosAnswer::Prescalers(Mcos { mco1, mco2 });
+            }
         },
     }
 }

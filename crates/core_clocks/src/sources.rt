@@ -50,7 +50,7 @@ pub fn p_clock(pll: Pll) -> Hertz
     }
 }
 
-fn q_clock(pll: Pll) -> Hertz
+pub fn q_clock(pll: Pll) -> Hertz
     ensures { λ r. ⌜ r ≡ Rules.qClock pll ⌝ }
 {
     match pll {
@@ -72,29 +72,52 @@ fn planned(h: Hertz) -> Input
     }
 }
 
-// Refusals 20 and 21.
-pub fn mco1_input(source: Mco1Source, hse: Hertz, pll1: Pll) -> Input
-    ensures { λ r. ⌜ r ≡ Spec.inputAnswer (Mco.mco1Input source hse (Rules.qClock pll1)) ⌝ }
+// Refusals 20 and 21, by the clock of PLL1 Q.
+pub fn mco1_input(source: Mco1Source, hse: Hertz, pll1: Hertz) -> Input
+    ensures { λ r. ⌜ r ≡ Spec.inputAnswer (Mco.mco1Input source hse pll1) ⌝ }
 {
     match source {
-        Mco1Source::Hsi => Input::Clock(32_000_000),
-        Mco1Source::Lse => Input::Refused(Refusal::Mco1Lse),
-        Mco1Source::Hse => Input::Clock(hertz_or_0(hse)),
-        Mco1Source::Pll1Q => planned(q_clock(pll1)),
-        Mco1Source::Hsi48 => Input::Clock(48_000_000),
+        Mco1Source::Hsi => {
+            return Input::Clock(32_000_000);
+        }
+        Mco1Source::Lse => {
+            return Input::Refused(Refusal::Mco1Lse);
+        }
+        Mco1Source::Hse => {
+            return Input::Clock(hertz_or_0(hse));
+        }
+        Mco1Source::Pll1Q => {
+            return planned(pll1);
+        }
+        Mco1Source::Hsi48 => {
+            return Input::Clock(48_000_000);
+        }
     }
 }
 
-pub fn mco2_input(source: Mco2Source, system: u32, hse: Hertz, pll1: Pll, pll2: Pll) -> Input
-    ensures { λ r. ⌜ r ≡ Spec.inputAnswer (Mco.mco2Input source system hse (Rules.pClock pll1) (Rules.pClock pll2)) ⌝ }
+// Refusal 21, by the clocks of PLL1 P and PLL2 P.
+pub fn mco2_input(source: Mco2Source, system: u32, hse: Hertz, pll1: Hertz, pll2: Hertz) -> Input
+    ensures { λ r. ⌜ r ≡ Spec.inputAnswer (Mco.mco2Input source system hse pll1 pll2) ⌝ }
 {
     match source {
-        Mco2Source::Sysclk => Input::Clock(system),
-        Mco2Source::Pll2P => planned(p_clock(pll2)),
-        Mco2Source::Hse => Input::Clock(hertz_or_0(hse)),
-        Mco2Source::Pll1P => planned(p_clock(pll1)),
-        Mco2Source::Csi => Input::Clock(4_000_000),
-        Mco2Source::Lsi => Input::Clock(32_000),
+        Mco2Source::Sysclk => {
+            return Input::Clock(system);
+        }
+        Mco2Source::Pll2P => {
+            return planned(pll2);
+        }
+        Mco2Source::Hse => {
+            return Input::Clock(hertz_or_0(hse));
+        }
+        Mco2Source::Pll1P => {
+            return planned(pll1);
+        }
+        Mco2Source::Csi => {
+            return Input::Clock(4_000_000);
+        }
+        Mco2Source::Lsi => {
+            return Input::Clock(32_000);
+        }
     }
 }
 

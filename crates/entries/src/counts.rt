@@ -1,6 +1,7 @@
 // How many entries does each part of the list have? Document 01, Register entries.
 ghost use mathlib.Core.Path.{_≡_};
-ghost use Prim.Native.Nat.{_≤_};
+ghost use Prim.Native.Nat.{_≤_, _<_};
+ghost use Rattle.fields.specs.Segments.{pllOf};
 ghost use Rattle.entries.specs.Counts.{outputCount, fractionCount, settingCount, setupCount, setupsCount, hseCount, sourceCount, outputStartCount, startCount, startsCount};
 use types::Fraction;
 use types::Hertz;
@@ -44,10 +45,21 @@ fn setting(s: PllSettings) -> usize
     4 + a + b + c + d
 }
 
-// A PLL that is skipped adds none.
-pub fn setup(x: Pll) -> usize
-    ensures { λ r. ⌜ (r ≡ setupCount x) × (r ≤ 13) ⌝ }
+// PLL j of three.
+pub fn pll(plls: [PllPlan; 3], j: usize) -> Pll
+    requires { ⌜ j < 3 ⌝ }
+    ensures { λ r. ⌜ r ≡ pllOf plls j ⌝ }
 {
+    let a = plls[j];
+    a.pll
+}
+
+// PLL j of three: one that is skipped adds none.
+pub fn setup(plls: [PllPlan; 3], j: usize) -> usize
+    requires { ⌜ j < 3 ⌝ }
+    ensures { λ r. ⌜ (r ≡ setupCount (pllOf plls j)) × (r ≤ 13) ⌝ }
+{
+    let x = pll(plls, j);
     match x {
         Pll::Idle => 0,
         Pll::Runs(s) => setting(s),
@@ -58,16 +70,7 @@ pub fn setup(x: Pll) -> usize
 pub fn setups(plls: [PllPlan; 3]) -> usize
     ensures { λ r. ⌜ (r ≡ setupsCount plls) × (r ≤ 39) ⌝ }
 {
-    let a = plls[0];
-    let b = plls[1];
-    let c = plls[2];
-    let x = a.pll;
-    let y = b.pll;
-    let z = c.pll;
-    let l = setup(x);
-    let m = setup(y);
-    let n = setup(z);
-    l + m + n
+    setup(plls, 0) + setup(plls, 1) + setup(plls, 2)
 }
 
 // With HSE: HSEON, HSEBYP together, wait HSERDY.
@@ -100,10 +103,12 @@ fn output_start(o: PllOutput) -> usize
     }
 }
 
-// A PLL, where it runs.
-pub fn start(x: Pll) -> usize
-    ensures { λ r. ⌜ (r ≡ startCount x) × (r ≤ 2) ⌝ }
+// PLL j of three, where it runs.
+pub fn start(plls: [PllPlan; 3], j: usize) -> usize
+    requires { ⌜ j < 3 ⌝ }
+    ensures { λ r. ⌜ (r ≡ startCount (pllOf plls j)) × (r ≤ 2) ⌝ }
 {
+    let x = pll(plls, j);
     match x {
         Pll::Idle => 0,
         Pll::Runs(s) => {
@@ -117,14 +122,5 @@ pub fn start(x: Pll) -> usize
 pub fn starts(plls: [PllPlan; 3]) -> usize
     ensures { λ r. ⌜ (r ≡ startsCount plls) × (r ≤ 6) ⌝ }
 {
-    let a = plls[0];
-    let b = plls[1];
-    let c = plls[2];
-    let x = a.pll;
-    let y = b.pll;
-    let z = c.pll;
-    let l = start(x);
-    let m = start(y);
-    let n = start(z);
-    l + m + n
+    start(plls, 0) + start(plls, 1) + start(plls, 2)
 }

@@ -4,6 +4,7 @@ ghost use Rattle.rules.specs.Document01.Entries.{entriesOf, planEntries};
 ghost use lib.ListN.{length};
 ghost use Rattle.fields.specs.Segments.{afterClocks};
 ghost use Rattle.entries.specs.Place.{entryAt};
+use fields::SRC;
 use types::Answer;
 use types::Entry;
 use types::Plan;
@@ -62,11 +63,11 @@ fn plan_at(plan: Plan, k: usize) -> EntryAt
     let plls = plan.plls;
     let a = counts::setups(plls);
     if k < a {
-        return places::setups_at(plls, k);
+        return EntryAt::Is(places::setups_at(plls, k));
     }
     let l = k - a;
     if l < 9 {
-        return places::clock_at(
+        return EntryAt::Is(places::clock_at(
             plan.delay,
             plan.latency,
             plan.mco1sel,
@@ -74,7 +75,7 @@ fn plan_at(plan: Plan, k: usize) -> EntryAt
             plan.mco2sel,
             plan.mco2pre,
             l,
-        );
+        ));
     }
     after_clocks(plan, l - 9)
 }
@@ -87,17 +88,17 @@ fn after_clocks(plan: Plan, k: usize) -> EntryAt
     let hse = plan.hse;
     let a = counts::hse(hse);
     if k < a {
-        return places::hse_at(hse, plan.bypass, k);
+        return EntryAt::Is(places::hse_at(plan.bypass, k));
     }
     let l = k - a;
     let b = counts::sources(plan.three);
     if l < b {
-        return places::source_at(plan.three, plan.src, l);
+        return EntryAt::Is(Entry::Set(15 * l + SRC, plan.src));
     }
     let m = l - b;
     let c = counts::starts(plls);
     if m < c {
-        return places::starts_at(plls, m);
+        return EntryAt::Is(places::starts_at(plls, m));
     }
     places::bus_at(
         plan.hpre,

@@ -1,130 +1,133 @@
-// Which entry stands at place k of a part of the list, from 0? Document 01, Register entries.
+// Which entry stands at place k of a part of the list, from 0? Document 01, Register entries. Past a part's end a read, which no list has; past the buses, the list's last part, none.
 ghost use mathlib.Core.Path.{_≡_};
 ghost use Prim.Native.Nat.{_<_};
-ghost use Rattle.rules.specs.Document01.Entries.{outputEntries, fractionEntries, baseEntries, settingEntries, setupEntries, hseEntries, sourceEntries, outputStart, startEntries};
+ghost use Rattle.types.specs.declared.Hertz.the-variants.{Hz};
+ghost use Rattle.types.specs.declared.PllOutput.the-variants.{On};
+ghost use Rattle.rules.specs.Document01.Entries.{outputEntries, fractionEntries, settingEntries, setupEntries, hseEntries, outputStart};
 ghost use Rattle.fields.specs.Segments.{setups, clockList, starts, busList};
-ghost use Rattle.entries.specs.Place.{entryAt};
+ghost use Rattle.entries.specs.Counts.{startsCount};
+ghost use Rattle.entries.specs.Place.{entryAt, entryOr, baseOf, outputsOf};
 use crate::EntryAt;
 use crate::counts;
 use fields::*;
 use types::Entry;
 use types::Fraction;
-use types::Hertz;
 use types::Pll;
 use types::PllOutput;
 use types::PllPlan;
 use types::PllSettings;
 
 // Each PLL: VCOSEL; RGE; M; N − 1.
-fn base_at(j: usize, s: PllSettings, k: usize) -> EntryAt
+fn base_at(j: usize, vcosel: u32, rge: u32, m: u32, n: u32, k: usize) -> Entry
     requires { ⌜ j < 3 ⌝ }
-    ensures { λ r. ⌜ r ≡ entryAt (baseEntries j s) k ⌝ }
+    ensures { λ r. ⌜ r ≡ entryOr (baseOf j vcosel rge m n) k ⌝ }
 {
     let at = 15 * j;
     match k {
-        0 => EntryAt::Is(Entry::Set(at + VCOSEL, s.vcosel)),
-        1 => EntryAt::Is(Entry::Set(at + RGE, s.rge)),
-        2 => EntryAt::Is(Entry::Set(at + M, s.m)),
-        3 => EntryAt::Is(Entry::Set(at + N, less_one(s.n))),
-        _ => EntryAt::Past,
+        0 => Entry::Set(at + VCOSEL, vcosel),
+        1 => Entry::Set(at + RGE, rge),
+        2 => Entry::Set(at + M, m),
+        3 => Entry::Set(at + N, less_one(n)),
+        _ => Entry::Read(0),
     }
 }
 
 // If Fractional FRACN, FRACEN 0, FRACEN 1.
-fn fraction_at(j: usize, f: Fraction, k: usize) -> EntryAt
+fn fraction_at(j: usize, f: Fraction, k: usize) -> Entry
     requires { ⌜ j < 3 ⌝ }
-    ensures { λ r. ⌜ r ≡ entryAt (fractionEntries j f) k ⌝ }
+    ensures { λ r. ⌜ r ≡ entryOr (fractionEntries j f) k ⌝ }
 {
     match f {
-        Fraction::Whole => EntryAt::Past,
+        Fraction::Whole => Entry::Read(0),
         Fraction::Part(n) => match k {
-            0 => EntryAt::Is(Entry::Set(15 * j + FRACN, n)),
-            1 => EntryAt::Is(Entry::Set(15 * j + FRACEN, 0)),
-            2 => EntryAt::Is(Entry::Set(15 * j + FRACEN, 1)),
-            _ => EntryAt::Past,
+            0 => Entry::Set(15 * j + FRACN, n),
+            1 => Entry::Set(15 * j + FRACEN, 0),
+            2 => Entry::Set(15 * j + FRACEN, 1),
+            _ => Entry::Read(0),
         },
     }
 }
 
 // For P, Q, R divider − 1 then enable, or disable alone.
-fn output_at(divider: usize, enable: usize, o: PllOutput, k: usize) -> EntryAt
-    ensures { λ r. ⌜ r ≡ entryAt (outputEntries divider enable o) k ⌝ }
+fn output_at(divider: usize, enable: usize, o: PllOutput, k: usize) -> Entry
+    ensures { λ r. ⌜ r ≡ entryOr (outputEntries divider enable o) k ⌝ }
 {
     match o {
         PllOutput::Off => match k {
-            0 => EntryAt::Is(Entry::Set(enable, 0)),
-            _ => EntryAt::Past,
+            0 => Entry::Set(enable, 0),
+            _ => Entry::Read(0),
         },
         PllOutput::On(d, _) => match k {
-            0 => EntryAt::Is(Entry::Set(divider, less_one(d))),
-            1 => EntryAt::Is(Entry::Set(enable, 1)),
-            _ => EntryAt::Past,
+            0 => Entry::Set(divider, less_one(d)),
+            1 => Entry::Set(enable, 1),
+            _ => Entry::Read(0),
         },
     }
 }
 
-// What sets a PLL up: its base, the fraction, and P, Q, R.
-fn setting_at(j: usize, s: PllSettings, k: usize) -> EntryAt
+// What P, Q, R of a PLL add.
+fn outputs_at(j: usize, p: PllOutput, q: PllOutput, r: PllOutput, k: usize) -> Entry
     requires { ⌜ j < 3 ⌝ }
-    ensures { λ r. ⌜ r ≡ entryAt (settingEntries j s) k ⌝ }
+    ensures { λ x. ⌜ x ≡ entryOr (outputsOf j p q r) k ⌝ }
 {
     let at = 15 * j;
-    let f = s.fraction;
-    let p = s.p;
-    let q = s.q;
-    let r = s.r;
+    let a = counts::output(p);
+    if k < a {
+        return output_at(at + P, at + PEN, p, k);
+    }
+    let l = k - a;
+    let b = counts::output(q);
+    if l < b {
+        return output_at(at + Q, at + QEN, q, l);
+    }
+    output_at(at + R, at + REN, r, l - b)
+}
+
+// What sets a PLL up: its base, the fraction, and P, Q, R.
+fn setting_at(j: usize, s: PllSettings, k: usize) -> Entry
+    requires { ⌜ j < 3 ⌝ }
+    ensures { λ r. ⌜ r ≡ entryOr (settingEntries j s) k ⌝ }
+{
     if k < 4 {
-        return base_at(j, s, k);
+        return base_at(j, s.vcosel, s.rge, s.m, s.n, k);
     }
     let l = k - 4;
+    let f = s.fraction;
     let a = counts::fraction(f);
     if l < a {
         return fraction_at(j, f, l);
     }
-    let m = l - a;
-    let b = counts::output(p);
-    if m < b {
-        return output_at(at + P, at + PEN, p, m);
-    }
-    let n = m - b;
-    let c = counts::output(q);
-    if n < c {
-        return output_at(at + Q, at + QEN, q, n);
-    }
-    output_at(at + R, at + REN, r, n - c)
+    let p = s.p;
+    let q = s.q;
+    let r = s.r;
+    outputs_at(j, p, q, r, l - a)
 }
 
 // A PLL that is skipped adds no entry but its SRC.
-fn setup_at(j: usize, x: Pll, k: usize) -> EntryAt
+fn setup_at(j: usize, x: Pll, k: usize) -> Entry
     requires { ⌜ j < 3 ⌝ }
-    ensures { λ r. ⌜ r ≡ entryAt (setupEntries j x) k ⌝ }
+    ensures { λ r. ⌜ r ≡ entryOr (setupEntries j x) k ⌝ }
 {
     match x {
-        Pll::Idle => EntryAt::Past,
+        Pll::Idle => Entry::Read(0),
         Pll::Runs(s) => setting_at(j, s, k),
     }
 }
 
 // Each PLL, in PLL order.
-pub fn setups_at(plls: [PllPlan; 3], k: usize) -> EntryAt
-    ensures { λ r. ⌜ r ≡ entryAt (setups plls) k ⌝ }
+pub fn setups_at(plls: [PllPlan; 3], k: usize) -> Entry
+    ensures { λ r. ⌜ r ≡ entryOr (setups plls) k ⌝ }
 {
-    let a = plls[0];
-    let b = plls[1];
-    let c = plls[2];
-    let x = a.pll;
-    let y = b.pll;
-    let z = c.pll;
-    let n = counts::setup(x);
-    if k < n {
-        return setup_at(0, x, k);
+    let a = counts::setup(plls, 0);
+    if k < a {
+        return setup_at(0, counts::pll(plls, 0), k);
     }
-    let l = k - n;
-    let m = counts::setup(y);
-    if l < m {
-        return setup_at(1, y, l);
+    let l = k - a;
+    let b = counts::setup(plls, 1);
+    if l < b {
+        return setup_at(1, counts::pll(plls, 1), l);
     }
-    setup_at(2, z, l - m)
+    setup_at(2, counts::pll(plls, 2), l - b)
 }
 
 // LSI; flash; CSI; HSI48; the MCOs.
@@ -136,19 +139,19 @@ pub fn clock_at(
     mco2sel: u32,
     mco2pre: u32,
     k: usize,
-) -> EntryAt
-    ensures { λ r. ⌜ r ≡ entryAt (clockList delay latency mco1sel mco1pre mco2sel mco2pre) k ⌝ }
+) -> Entry
+    ensures { λ r. ⌜ r ≡ entryOr (clockList delay latency mco1sel mco1pre mco2sel mco2pre) k ⌝ }
 {
     match k {
-        0 => EntryAt::Is(Entry::Set(LSION, 1)),
-        1 => EntryAt::Is(Entry::Wait(LSIRDY, 1)),
-        2 => EntryAt::Is(Entry::Set3(WRHIGHFREQ, delay, LATENCY, latency, PRFTEN, prften(latency))),
-        3 => EntryAt::Is(Entry::Wait(LATENCY, latency)),
-        4 => EntryAt::Is(Entry::Set(CSION, 1)),
-        5 => EntryAt::Is(Entry::Wait(CSIRDY, 1)),
-        6 => EntryAt::Is(Entry::Set(HSI48ON, 1)),
-        7 => EntryAt::Is(Entry::Wait(HSI48RDY, 1)),
-        8 => EntryAt::Is(Entry::Set4(
+        0 => Entry::Set(LSION, 1),
+        1 => Entry::Wait(LSIRDY, 1),
+        2 => Entry::Set3(WRHIGHFREQ, delay, LATENCY, latency, PRFTEN, prften(latency)),
+        3 => Entry::Wait(LATENCY, latency),
+        4 => Entry::Set(CSION, 1),
+        5 => Entry::Wait(CSIRDY, 1),
+        6 => Entry::Set(HSI48ON, 1),
+        7 => Entry::Wait(HSI48RDY, 1),
+        8 => Entry::Set4(
             MCO1SEL,
             mco1sel,
             MCO1PRE,
@@ -157,91 +160,49 @@ pub fn clock_at(
             mco2sel,
             MCO2PRE,
             mco2pre,
-        )),
-        _ => EntryAt::Past,
+        ),
+        _ => Entry::Read(0),
     }
 }
 
 // With HSE: HSEON, HSEBYP together, wait HSERDY.
-pub fn hse_at(hse: Hertz, bypass: bool, k: usize) -> EntryAt
-    ensures { λ r. ⌜ r ≡ entryAt (hseEntries hse bypass) k ⌝ }
-{
-    match hse {
-        Hertz::Unset => EntryAt::Past,
-        Hertz::Hz(_) => match k {
-            0 => EntryAt::Is(Entry::Set2(HSEON, 1, HSEBYP, bit_of(bypass))),
-            1 => EntryAt::Is(Entry::Wait(HSERDY, 1)),
-            _ => EntryAt::Past,
-        },
-    }
-}
-
-// Each PLL's SRC, all of them.
-pub fn source_at(three: bool, src: u32, k: usize) -> EntryAt
-    ensures { λ r. ⌜ r ≡ entryAt (sourceEntries three src) k ⌝ }
+pub fn hse_at(bypass: bool, k: usize) -> Entry
+    ensures { λ r. ⌜ r ≡ entryOr (hseEntries (Hz 0) bypass) k ⌝ }
 {
     match k {
-        0 => EntryAt::Is(Entry::Set(SRC, src)),
-        1 => EntryAt::Is(Entry::Set(15 + SRC, src)),
-        2 => {
-            if three {
-                return EntryAt::Is(Entry::Set(30 + SRC, src));
-            }
-            EntryAt::Past
-        }
-        _ => EntryAt::Past,
+        0 => Entry::Set2(HSEON, 1, HSEBYP, bit_of(bypass)),
+        1 => Entry::Wait(HSERDY, 1),
+        _ => Entry::Read(0),
     }
 }
 
-// A PLL is started when it has P: ON, wait RDY.
-fn start_output_at(j: usize, o: PllOutput, k: usize) -> EntryAt
+// A PLL is started: ON, wait RDY.
+fn start_at(j: usize, k: usize) -> Entry
     requires { ⌜ j < 3 ⌝ }
-    ensures { λ r. ⌜ r ≡ entryAt (outputStart j o) k ⌝ }
+    ensures { λ r. ⌜ r ≡ entryOr (outputStart j (On 0 0)) k ⌝ }
 {
-    match o {
-        PllOutput::Off => EntryAt::Past,
-        PllOutput::On(_, _) => match k {
-            0 => EntryAt::Is(Entry::Set(15 * j + ON, 1)),
-            1 => EntryAt::Is(Entry::Wait(15 * j + RDY, 1)),
-            _ => EntryAt::Past,
-        },
-    }
-}
-
-// A PLL, where it runs.
-fn start_at(j: usize, x: Pll, k: usize) -> EntryAt
-    requires { ⌜ j < 3 ⌝ }
-    ensures { λ r. ⌜ r ≡ entryAt (startEntries j x) k ⌝ }
-{
-    match x {
-        Pll::Idle => EntryAt::Past,
-        Pll::Runs(s) => {
-            let p = s.p;
-            start_output_at(j, p, k)
-        }
+    match k {
+        0 => Entry::Set(15 * j + ON, 1),
+        1 => Entry::Wait(15 * j + RDY, 1),
+        _ => Entry::Read(0),
     }
 }
 
 // The starts, in PLL order.
-pub fn starts_at(plls: [PllPlan; 3], k: usize) -> EntryAt
-    ensures { λ r. ⌜ r ≡ entryAt (starts plls) k ⌝ }
+pub fn starts_at(plls: [PllPlan; 3], k: usize) -> Entry
+    requires { ⌜ k < startsCount plls ⌝ }
+    ensures { λ r. ⌜ r ≡ entryOr (starts plls) k ⌝ }
 {
-    let a = plls[0];
-    let b = plls[1];
-    let c = plls[2];
-    let x = a.pll;
-    let y = b.pll;
-    let z = c.pll;
-    let n = counts::start(x);
-    if k < n {
-        return start_at(0, x, k);
+    let a = counts::start(plls, 0);
+    if k < a {
+        return start_at(0, k);
     }
-    let l = k - n;
-    let m = counts::start(y);
-    if l < m {
-        return start_at(1, y, l);
+    let l = k - a;
+    let b = counts::start(plls, 1);
+    if l < b {
+        return start_at(1, l);
     }
-    start_at(2, z, l - m)
+    start_at(2, l - b)
 }
 
 // The prescalers, the selectors, the check of CSIRDY and the compensation cell: the list ends with them.
@@ -267,6 +228,6 @@ pub fn bus_at(
         7 => EntryAt::Is(Entry::Set(SBSEN, 1)),
         8 => EntryAt::Is(Entry::Set4(EN1, 1, CS1, 0, EN2, 1, CS2, 0)),
         9 => EntryAt::Is(Entry::Wait2(RDY1, 1, RDY2, 1)),
-        _ => EntryAt::Past, // the list ends
+        _ => EntryAt::Past,
     }
 }

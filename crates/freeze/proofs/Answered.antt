@@ -6,7 +6,7 @@ use Rattle.types.specs.declared.Request.{Request}
 use Rattle.types.specs.declared.ChipState.{ChipState}
 use Rattle.types.specs.declared.Plan.{Plan}
 use Rattle.rules.specs.Document01.Result.{Result, refused, ok, _>>=_}
-use Rattle.rules.specs.Document01.Request.{pllAt, pll2Asked, sourceOf}
+use Rattle.rules.specs.Document01.Request.{pll2Asked, sourceOf}
 use Rattle.rules.specs.Document01.Plan.{answered, answerTo, chosenPlan}
 use Rattle.config.specs.declared.Configured.{Configured}
 use Rattle.config.specs.Config.{configOf, configured}
@@ -25,12 +25,9 @@ module _ (q : Request) (c : ChipState) (s : Configured) (e : s ≡ configured q 
   pub settings : s .answer ≡ Accepted → Settled q s
   settings = settled q s (configOf q) e
 
-  abbrev pub own : Result Plan
-  own = Spec.withPlls q c (Spec.all (Spec.numbered 0 c (s .source) (s .pll1)) (Spec.numbered 1 c (s .source) (s .pll2)) (Spec.numbered 2 c (s .source) (pllAt q 2)))
-
-  pub by-plan : s .answer ≡ Accepted → answered own ≡ answerTo q c
+  pub by-plan : s .answer ≡ Accepted → answered (Spec.configuredPlan q c s) ≡ answerTo q c
   unfolding answerTo asked
   by-plan a =
       let k = settings a in
-      let step : own ≡ planned q c (s .pll1) = rw (k .source, k .pll2) in
+      let step : Spec.configuredPlan q c s ≡ planned q c (s .pll1) = rw (k .source, k .pll2) in
       ap answered step ∙ sym (ap answered (chosen-by ∙ ap (λ x. asked x (s .pll1) >>= planned q c) a))

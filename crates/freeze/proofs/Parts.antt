@@ -10,19 +10,20 @@ use Rattle.types.specs.declared.Planned.{Planned}
 use Rattle.core_clocks.specs.declared.Selected.{Selected}
 use Rattle.rules.specs.Document01.Plan.{Buses, Mcos}
 use Rattle.freeze.specs.declared.codes.Waits.{Waits}
+use Rattle.freeze.specs.declared.codes.Numbers.{Numbers}
 use Rattle.freeze.specs.Freeze.{accepted}
 
 module _ (q : Request) (c : ChipState) (b : Buses) (m : Mcos) where
-  abbrev pub planBy : (sys timx timy src sw mco1sel mco2sel : ℕ) → List PllPlan → Selected → Waits → Planned
-  planBy sys timx timy src sw mco1sel mco2sel plls per w = accepted (record {
+  abbrev pub planBy : (sys : ℕ) → List PllPlan → Numbers → Planned
+  planBy sys plls k = accepted (record {
     sys = sys;
     hclk = b .ahb .clock;
     pclk1 = b .apb1 .clock;
     pclk2 = b .apb2 .clock;
     pclk3 = b .apb3 .clock;
-    timx = timx;
-    timy = timy;
-    per = per .clock;
+    timx = k .timx;
+    timy = k .timy;
+    per = k .per;
     hsi = 32_000_000;
     csi = 4_000_000;
     hsi48 = 48_000_000;
@@ -34,21 +35,27 @@ module _ (q : Request) (c : ChipState) (b : Buses) (m : Mcos) where
     mco2 = m .mco2 .clock;
     three = c .three;
     plls = plls;
-    src = src;
-    sw = sw;
+    src = k .src;
+    sw = k .sw;
     bypass = q .bypass;
     hpre = b .ahb .pre;
     ppre1 = b .apb1 .pre;
     ppre2 = b .apb2 .pre;
     ppre3 = b .apb3 .pre;
-    ckpersel = per .sel;
-    mco1sel = mco1sel;
+    ckpersel = k .ckpersel;
+    mco1sel = k .mco1sel;
     mco1pre = m .mco1 .pre;
-    mco2sel = mco2sel;
+    mco2sel = k .mco2sel;
     mco2pre = m .mco2 .pre;
-    latency = w .latency;
-    delay = w .delay;
+    latency = k .latency;
+    delay = k .delay;
   })
 
-  pub equal : {s s' x x' y y' r r' w w' i i' j j' : ℕ} {l l' : List PllPlan} {p p' : Selected} {v v' : Waits} → s ≡ s' → x ≡ x' → y ≡ y' → r ≡ r' → w ≡ w' → i ≡ i' → j ≡ j' → l ≡ l' → p ≡ p' → v ≡ v' → planBy s x y r w i j l p v ≡ planBy s' x' y' r' w' i' j' l' p' v'
-  equal e1 e2 e3 e4 e5 e6 e7 e8 e9 e10 = rw (e1, e2, e3, e4, e5, e6, e7, e8, e9, e10)
+  pub equal : {s s' : ℕ} {l l' : List PllPlan} {k k' : Numbers} → s ≡ s' → l ≡ l' → k ≡ k' → planBy s l k ≡ planBy s' l' k'
+  equal e f g = rw (e, f, g)
+
+abbrev numbersBy : (timx timy src sw mco1sel mco2sel : ℕ) → Selected → Waits → Numbers
+numbersBy timx timy src sw mco1sel mco2sel p w = record { timx = timx; timy = timy; per = p .clock; ckpersel = p .sel; src = src; sw = sw; mco1sel = mco1sel; mco2sel = mco2sel; latency = w .latency; delay = w .delay }
+
+pub equal-numbers : {x x' y y' r r' w w' i i' j j' : ℕ} {p p' : Selected} {v v' : Waits} → x ≡ x' → y ≡ y' → r ≡ r' → w ≡ w' → i ≡ i' → j ≡ j' → p ≡ p' → v ≡ v' → numbersBy x y r w i j p v ≡ numbersBy x' y' r' w' i' j' p' v'
+equal-numbers e1 e2 e3 e4 e5 e6 e7 e8 = rw (e1, e2, e3, e4, e5, e6, e7, e8)

@@ -50,7 +50,7 @@ module _ (p1 : PllRequest → Result Pll) (p2 p3 : Result Pll) (three : Bool) (f
 
 -- what is left once steps 1 to 3 are settled
 abbrev pub planned : Request → ChipState → PllRequest → Result Plan
-planned q c a = Spec.withPlls q c (Spec.all (Spec.numbered 0 c (sourceOf q) a) (Spec.numbered 1 c (sourceOf q) (pll2Asked q)) (Spec.numbered 2 c (sourceOf q) (pllAt q 2)))
+planned q c a = Spec.withPlls q c (Spec.all (Spec.one true (c .odd1) (sourceOf q) a) (Spec.one true (c .odd2) (sourceOf q) (pll2Asked q)) (Spec.one (c .three) (c .odd3) (sourceOf q) (pllAt q 2)))
 
 pub chosen : (q : Request) (c : ChipState) → chosenPlan q c ≡ (configOf q >>= planned q c)
 unfolding chosenPlan pllsOf configOf onePllOf

@@ -1,8 +1,7 @@
 -- What the private functions answer, by document 01, One call, from the top.
-use mathlib.Core.Bool.{Bool, cond}
+use mathlib.Core.Bool.{Bool, true, cond}
 use Prim.Native.Nat.{ℕ}
 use mathlib.Core.List.{List, [], _∷_}
-use lib.Dec.{eqb}
 use Rattle.types.specs.declared.Request.{Request}
 use Rattle.types.specs.declared.ChipState.{ChipState}
 use Rattle.types.specs.declared.Scale.{Scale}
@@ -15,8 +14,12 @@ use Rattle.types.specs.declared.PllPlan.{PllPlan}
 use Rattle.types.specs.declared.Plan.{Plan}
 use Rattle.types.specs.declared.Planned.{Planned}
 use Rattle.rules.specs.Document01.Result.{Result, refused, ok, _>>=_, _>>_}
+use Rattle.rules.specs.Document01.Buses.{peripheralOf, timerOf}
+use Rattle.rules.specs.Document01.Mco.{mco1Code, mco2Code}
 use Rattle.rules.specs.Document01.Flash as Flash
 use Rattle.rules.specs.Document01.Plan as Rules
+use Rattle.rules.specs.Document01.Request.{pllAt}
+use Rattle.config.specs.declared.Configured.{Configured}
 use Rattle.pll.specs.declared.PllAnswer.{PllAnswer}
 use Rattle.pll.specs.Answer.{onePllOf}
 use Rattle.flash.specs.declared.FlashWaits.{FlashWaits}
@@ -27,6 +30,7 @@ use Rattle.core_clocks.specs.declared.McosAnswer.{McosAnswer}
 use Rattle.freeze.specs.declared.plls.Plls.{Plls}
 use Rattle.freeze.specs.declared.plls.PllsAnswer.{PllsAnswer}
 use Rattle.freeze.specs.declared.codes.Waits.{Waits}
+use Rattle.freeze.specs.declared.codes.Numbers.{Numbers}
 
 -- the answer that steps come to, of crates/rules
 abbrev pub answered : Result Plan → Planned
@@ -94,17 +98,10 @@ withPlls q c x = do
   l ← x
   rest q c l
 
--- ---- the PLLs by their number, from 0
--- step 4: the third is there on a chip that has one
-abbrev pub third : Bool → (odd : Bool) → (source : ℕ) → PllRequest → Result Pll
-third three odd source a = cond three (onePllOf odd source a) (ok Idle)
-
--- step 4: PLL k with its permission for odd P
-abbrev pub numbered : ℕ → ChipState → (source : ℕ) → PllRequest → Result Pll
-numbered k c source a =
-    cond (eqb k 0) (onePllOf (c .odd1) source a)
-    (cond (eqb k 1) (onePllOf (c .odd2) source a)
-    (third (c .three) (c .odd3) source a))
+-- ---- the PLLs by their number
+-- step 4: one PLL, on a chip that has it
+abbrev pub one : (there odd : Bool) → (source : ℕ) → PllRequest → Result Pll
+one there odd source a = cond there (onePllOf odd source a) (ok Idle)
 
 -- step 4: PLLs in order
 abbrev pub all : (x y z : Result Pll) → Result Rules.Plls
@@ -113,6 +110,10 @@ all x y z = do
   pll2 ← y
   pll3 ← z
   ok (record { pll1 = pll1; pll2 = pll2; pll3 = pll3 })
+
+-- from the PLLs on, by what steps 1 to 3 settled
+abbrev pub configuredPlan : Request → ChipState → Configured → Result Plan
+configuredPlan q c s = withPlls q c (all (one true (c .odd1) (s .source) (s .pll1)) (one true (c .odd2) (s .source) (s .pll2)) (one (c .three) (c .odd3) (s .source) (pllAt q 2)))
 
 abbrev pub pllsAnswer : Result Rules.Plls → PllsAnswer
 pllsAnswer (refused n) = PllsAnswer.Refused n
@@ -138,3 +139,18 @@ waits w = record { latency = w .latency; delay = w .delay }
 abbrev pub waitsIn : FlashWaits → Waits
 waitsIn FlashWaits.Outside = record { latency = 0; delay = 0 }
 waitsIn (FlashWaits.Waits l d) = record { latency = l; delay = d }
+
+-- ---- the plan's other numbers
+abbrev pub chosen : Request → ChipState → (needs : Bool) → (hclk ppre1 ppre2 : ℕ) → Numbers
+chosen q c needs hclk ppre1 ppre2 = record {
+  timx = timerOf hclk ppre1;
+  timy = timerOf hclk ppre2;
+  per = peripheralOf (q .peripheral) (q .hse) .clock;
+  ckpersel = peripheralOf (q .peripheral) (q .hse) .sel;
+  src = Rules.srcOf (q .hse);
+  sw = Rules.swOf needs (q .hse);
+  mco1sel = mco1Code (q .mco1source);
+  mco2sel = mco2Code (q .mco2source);
+  latency = Flash.flashOf (c .scale) hclk .latency;
+  delay = Flash.flashOf (c .scale) hclk .delay;
+}

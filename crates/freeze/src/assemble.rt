@@ -21,6 +21,7 @@ pub fn refused(n: Refusal) -> Planned
     ensures { λ r. ⌜ r ≡ Spec.answered (Spec.refusedBy n) ⌝ }
 {
     let idle = PllPlan { pll: Pll::Idle };
+    let none = Hertz::Unset;
     let plan = Plan {
         sys: 0,
         hclk: 0,
@@ -34,13 +35,13 @@ pub fn refused(n: Refusal) -> Planned
         csi: 0,
         hsi48: 0,
         lsi: 0,
-        hse: Hertz::Unset,
-        lse: Hertz::Unset,
-        audio: Hertz::Unset,
-        mco1: Hertz::Unset,
-        mco2: Hertz::Unset,
+        hse: none,
+        lse: none,
+        audio: none,
+        mco1: none,
+        mco2: none,
         three: false,
-        plls: [idle, idle, idle],
+        plls: [idle; 3],
         src: 0,
         sw: 0,
         bypass: false,
@@ -90,27 +91,22 @@ pub fn accepted(
     let hse = q.hse;
     let lse = q.lse;
     let audio = q.audio;
-    let peripheral = q.peripheral;
-    let source1 = q.mco1source;
-    let source2 = q.mco2source;
-    let scale = c.scale;
     let out1 = m.mco1;
     let out2 = m.mco2;
     let mco1 = out1.clock;
     let mco2 = out2.clock;
     let hclk = b.ahb.clock;
     let plls = plan_plls(l);
-    let per = core_clocks::peripheral(peripheral, hse);
-    let waits = codes::wait_states(hclk, scale);
+    let k = codes::chosen(q, c, needs, hclk, b.apb1.pre, b.apb2.pre);
     let plan = Plan {
         sys,
         hclk,
         pclk1: b.apb1.clock,
         pclk2: b.apb2.clock,
         pclk3: b.apb3.clock,
-        timx: prescaler::timer(hclk, b.apb1.pre),
-        timy: prescaler::timer(hclk, b.apb2.pre),
-        per: per.clock,
+        timx: k.timx,
+        timy: k.timy,
+        per: k.per,
         hsi: 32_000_000,
         csi: 4_000_000,
         hsi48: 48_000_000,
@@ -122,20 +118,20 @@ pub fn accepted(
         mco2,
         three: c.three,
         plls,
-        src: codes::src_of(hse),
-        sw: codes::sw_of(needs, hse),
+        src: k.src,
+        sw: k.sw,
         bypass: q.bypass,
         hpre: b.ahb.pre,
         ppre1: b.apb1.pre,
         ppre2: b.apb2.pre,
         ppre3: b.apb3.pre,
-        ckpersel: per.sel,
-        mco1sel: codes::mco1_code(source1),
+        ckpersel: k.ckpersel,
+        mco1sel: k.mco1sel,
         mco1pre: out1.pre,
-        mco2sel: codes::mco2_code(source2),
+        mco2sel: k.mco2sel,
         mco2pre: out2.pre,
-        latency: waits.latency,
-        delay: waits.delay,
+        latency: k.latency,
+        delay: k.delay,
     };
     Planned {
         answer: Answer::Accepted,

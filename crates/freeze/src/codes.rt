@@ -5,12 +5,14 @@ ghost use Rattle.rules.specs.Document01.Plan as Plan;
 ghost use Rattle.rules.specs.Document01.Flash.{flashOf};
 ghost use Rattle.freeze.specs.Freeze as Spec;
 use flash::FlashWaits;
+use types::ChipState;
 use types::Hertz;
 use types::Mco1Source;
 use types::Mco2Source;
+use types::Request;
 use types::Scale;
 
-pub fn mco1_code(source: Mco1Source) -> u32
+fn mco1_code(source: Mco1Source) -> u32
     ensures { λ r. ⌜ r ≡ Mco.mco1Code source ⌝ }
 {
     match source {
@@ -22,7 +24,7 @@ pub fn mco1_code(source: Mco1Source) -> u32
     }
 }
 
-pub fn mco2_code(source: Mco2Source) -> u32
+fn mco2_code(source: Mco2Source) -> u32
     ensures { λ r. ⌜ r ≡ Mco.mco2Code source ⌝ }
 {
     match source {
@@ -35,7 +37,7 @@ pub fn mco2_code(source: Mco2Source) -> u32
     }
 }
 
-pub fn src_of(hse: Hertz) -> u32
+fn src_of(hse: Hertz) -> u32
     ensures { λ r. ⌜ r ≡ Plan.srcOf hse ⌝ }
 {
     match hse {
@@ -44,7 +46,7 @@ pub fn src_of(hse: Hertz) -> u32
     }
 }
 
-pub fn sw_of(needs: bool, hse: Hertz) -> u32
+fn sw_of(needs: bool, hse: Hertz) -> u32
     ensures { λ r. ⌜ r ≡ Plan.swOf needs hse ⌝ }
 {
     if needs {
@@ -86,8 +88,46 @@ fn waits_of(w: FlashWaits) -> Waits
     }
 }
 
-pub fn wait_states(ahb: u32, scale: Scale) -> Waits
+fn wait_states(ahb: u32, scale: Scale) -> Waits
     ensures { λ r. ⌜ r ≡ Spec.waits (flashOf scale ahb) ⌝ }
 {
     waits_of(flash::flash_setup(ahb, scale_code(scale)))
+}
+
+// What is chosen beside the buses, the clock outputs and the PLLs.
+pub struct Numbers {
+    pub timx: u32,
+    pub timy: u32,
+    pub per: u32,
+    pub ckpersel: u32,
+    pub src: u32,
+    pub sw: u32,
+    pub mco1sel: u32,
+    pub mco2sel: u32,
+    pub latency: u32,
+    pub delay: u32,
+}
+
+pub fn chosen(q: Request, c: ChipState, needs: bool, hclk: u32, ppre1: u32, ppre2: u32) -> Numbers
+    ensures { λ r. ⌜ r ≡ Spec.chosen q c needs hclk ppre1 ppre2 ⌝ }
+{
+    let hse = q.hse;
+    let peripheral = q.peripheral;
+    let source1 = q.mco1source;
+    let source2 = q.mco2source;
+    let scale = c.scale;
+    let per = core_clocks::peripheral(peripheral, hse);
+    let waits = wait_states(hclk, scale);
+    Numbers {
+        timx: prescaler::timer(hclk, ppre1),
+        timy: prescaler::timer(hclk, ppre2),
+        per: per.clock,
+        ckpersel: per.sel,
+        src: src_of(hse),
+        sw: sw_of(needs, hse),
+        mco1sel: mco1_code(source1),
+        mco2sel: mco2_code(source2),
+        latency: waits.latency,
+        delay: waits.delay,
+    }
 }

@@ -4,13 +4,12 @@ ghost use Rattle.rules.specs.Document01.Plan.{answerTo, answered};
 ghost use Rattle.rules.specs.Document01.Result as Result;
 ghost use Rattle.rules.specs.Document01.Request as Step;
 ghost use Rattle.freeze.specs.Freeze as Spec;
+use config::Configured;
 use core_clocks::BusesAnswer;
 use core_clocks::McosAnswer;
 use types::Answer;
 use types::ChipState;
 use types::Planned;
-use types::Pll;
-use types::PllRequest;
 use types::Refusal;
 use types::Request;
 
@@ -25,36 +24,30 @@ pub fn refused(n: Refusal) -> Planned
     assemble::refused(n)
 }
 
-// A typed request: steps 1 to 3, then the PLLs in order.
+// A typed request: steps 1 to 3, then the rest.
 pub fn answer_to(q: Request, c: ChipState) -> Planned
     ensures { λ r. ⌜ r ≡ answerTo q c ⌝ }
 {
     let s = config::configure(q);
     let answer = s.answer;
+    match answer {
+        Answer::Refused(n) => return assemble::refused(n),
+        Answer::Accepted => return with_plls(q, c, s),
+    }
+}
+
+// The PLLs in order, then what follows them.
+fn with_plls(q: Request, c: ChipState, s: Configured) -> Planned
+    requires { ⌜ (s .needs ≡ Step.needsPll1 q) × (s .source ≡ Step.sourceOf q) ⌝ }
+    ensures { λ r. ⌜ r ≡ Spec.answered (Spec.configuredPlan q c s) ⌝ }
+{
     let pll1 = s.pll1;
     let pll2 = s.pll2;
     let plls = q.plls;
     let pll3 = plls[2];
-    match answer {
-        Answer::Refused(n) => assemble::refused(n),
-        Answer::Accepted => with_plls(
-            q,
-            c,
-            s.needs,
-            s.source,
-            plls::all(c, s.source, pll1, pll2, pll3),
-        ),
-    }
-}
-
-// Once the PLLs are planned.
-fn with_plls(q: Request, c: ChipState, needs: bool, source: u32, plls: plls::PllsAnswer) -> Planned
-    requires { ⌜ (needs ≡ Step.needsPll1 q) × (source ≡ Step.sourceOf q) ⌝ }
-    ensures { λ r. ⌜ r ≡ Spec.answered (Spec.withPlls q c (Spec.pllsOf plls)) ⌝ }
-{
-    match plls {
-        plls::PllsAnswer::Refused(n) => assemble::refused(n),
-        plls::PllsAnswer::Planned(l) => rest(q, c, needs, source, l),
+    match plls::all(c, s.source, pll1, pll2, pll3) {
+        plls::PllsAnswer::Refused(n) => return assemble::refused(n),
+        plls::PllsAnswer::Planned(l) => return rest(q, c, s.needs, s.source, l),
     }
 }
 
@@ -91,10 +84,10 @@ fn finish(
     ensures { λ r. ⌜ r ≡ Spec.answered (Spec.finish q c (Spec.plls l) (Spec.busesOf buses) (Spec.mcosOf mcos)) ⌝ }
 {
     match buses {
-        BusesAnswer::Refused(n) => assemble::refused(n),
+        BusesAnswer::Refused(n) => return assemble::refused(n),
         BusesAnswer::Divided(b) => match mcos {
-            McosAnswer::Refused(n) => assemble::refused(n),
-            McosAnswer::Prescalers(m) => assemble::accepted(q, c, needs, system, l, b, m),
+            McosAnswer::Refused(n) => return assemble::refused(n),
+            McosAnswer::Prescalers(m) => return assemble::accepted(q, c, needs, system, l, b, m),
         },
     }
 }

@@ -1,5 +1,6 @@
 // The PLLs by their number.
 ghost use mathlib.Core.Path.{_≡_};
+ghost use mathlib.Core.Bool.{true};
 ghost use Rattle.pll.specs.Answer.{pllAnswer};
 ghost use Rattle.freeze.specs.Freeze as Spec;
 use pll::PllAnswer;
@@ -19,21 +20,11 @@ pub enum PllsAnswer {
     Refused(Refusal),
 }
 
-// PLL k, from 0. The third is there on a chip that has one.
-fn numbered(k: u32, c: ChipState, source: u32, request: PllRequest) -> PllAnswer
-    ensures { λ r. ⌜ r ≡ pllAnswer (Spec.numbered k c source request) ⌝ }
+// One PLL, on a chip that has it.
+fn one(there: bool, odd: bool, source: u32, request: PllRequest) -> PllAnswer
+    ensures { λ r. ⌜ r ≡ pllAnswer (Spec.one there odd source request) ⌝ }
 {
-    match k {
-        0 => pll::plan_pll(c.odd1, source, request),
-        1 => pll::plan_pll(c.odd2, source, request),
-        _ => third(c.three, c.odd3, source, request),
-    }
-}
-
-fn third(three: bool, odd: bool, source: u32, request: PllRequest) -> PllAnswer
-    ensures { λ r. ⌜ r ≡ pllAnswer (Spec.third three odd source request) ⌝ }
-{
-    if three {
+    if there {
         return pll::plan_pll(odd, source, request);
     }
     PllAnswer::Planned(Pll::Idle)
@@ -47,12 +38,12 @@ pub fn all(
     pll2: PllRequest,
     pll3: PllRequest,
 ) -> PllsAnswer
-    ensures { λ r. ⌜ r ≡ Spec.pllsAnswer (Spec.all (Spec.numbered 0 c source pll1) (Spec.numbered 1 c source pll2) (Spec.numbered 2 c source pll3)) ⌝ }
+    ensures { λ r. ⌜ r ≡ Spec.pllsAnswer (Spec.all (Spec.one true (c .odd1) source pll1) (Spec.one true (c .odd2) source pll2) (Spec.one (c .three) (c .odd3) source pll3)) ⌝ }
 {
     in_order(
-        numbered(0, c, source, pll1),
-        numbered(1, c, source, pll2),
-        numbered(2, c, source, pll3),
+        one(true, c.odd1, source, pll1),
+        one(true, c.odd2, source, pll2),
+        one(c.three, c.odd3, source, pll3),
     )
 }
 
@@ -61,12 +52,12 @@ fn in_order(first: PllAnswer, second: PllAnswer, third: PllAnswer) -> PllsAnswer
     ensures { λ r. ⌜ r ≡ Spec.pllsAnswer (Spec.all (Spec.pllOf first) (Spec.pllOf second) (Spec.pllOf third)) ⌝ }
 {
     match first {
-        PllAnswer::Refused(n) => PllsAnswer::Refused(n),
+        PllAnswer::Refused(n) => return PllsAnswer::Refused(n),
         PllAnswer::Planned(pll1) => match second {
-            PllAnswer::Refused(n) => PllsAnswer::Refused(n),
+            PllAnswer::Refused(n) => return PllsAnswer::Refused(n),
             PllAnswer::Planned(pll2) => match third {
-                PllAnswer::Refused(n) => PllsAnswer::Refused(n),
-                PllAnswer::Planned(pll3) => PllsAnswer::Planned(Plls { pll1, pll2, pll3 }),
+                PllAnswer::Refused(n) => return PllsAnswer::Refused(n),
+                PllAnswer::Planned(pll3) => return PllsAnswer::Planned(Plls { pll1, pll2, pll3 }),
             },
         },
     }

@@ -5,7 +5,8 @@ use Prim.Native.Nat.{ℕ, zero, suc, _+_, _-_, _*_, _/_, _≤_, _<_}
 use native.Mathlib.Omega.{arith}
 use native.Mathlib.Nat.{le-trans, lt-of-le-of-lt, mul-le-mul-right, div-mul-le-self, div-lt-iff-lt-mul, le-div-iff-mul-le}
 use lib.Dec.{ltb, leb}
-use borrow.Author.Tests.{le-leb, lt-leb}
+use borrow.Author.Tests.{le-leb, lt-leb, le-ltb}
+use mathlib.Core.Logic.{_≢_}
 use Rattle.types.specs.declared.FoundM.{FoundM}
 use Rattle.types.specs.declared.FoundM.the-variants.{Nothing, M}
 use Rattle.laws.proofs.Tests.{by-test}
@@ -81,3 +82,22 @@ pub held-fits : (source target : ℕ) → target < 2_147_483_648 → (f : FoundM
 unfolding shortfallOf
 held-fits source target t Nothing b l h n = absurd (n h)
 held-fits source target t (M k) b l h n = let e = h .2 in omega arith
+
+-- an M that falls short by nothing is not bettered
+module _ (source target low high : ℕ) where
+  better-kept : (k m : ℕ) → shortfallOf source target k ≡ 0 → betterOf source target low high (M k) m ≡ M k
+  unfolding betterOf
+  better-kept k m e = rw (e, and-none (inRange source low high m) (ltb (shortfallOf source target m) 0) (le-ltb (shortfallOf source target m) 0 (omega arith)))
+
+  onward : (n m k : ℕ) → n ≤ m → bestTo source target low high n ≡ M k → shortfallOf source target k ≡ 0 → bestTo source target low high m ≡ M k
+  unfolding bestTo
+  onward n zero k h e z = let u : zero ≡ n = omega arith in ap (bestTo source target low high) u ∙ e
+  onward n (suc m) k h e z =
+      by-test (leb n m) (λ t. rw (onward n m k (borrow.Author.Tests.leb-true n m t) e z) (better-kept k (suc m) z))
+      (λ f. let l = borrow.Author.Tests.leb-false n m f in let u : suc m ≡ n = omega arith in ap (bestTo source target low high) u ∙ e)
+
+  pub best-exact : (n b l : ℕ) → n ≤ 63 → Held source target (bestTo source target low high n) b l → b ≢ 0 → l ≡ 0 → bestTo source target low high 63 ≡ bestTo source target low high n
+  best-exact n b l h held nz z = go (bestTo source target low high n) refl held where
+    go : (f : FoundM) → bestTo source target low high n ≡ f → Held source target f b l → bestTo source target low high 63 ≡ bestTo source target low high n
+    go Nothing e t = absurd (nz t)
+    go (M k) e t = onward n 63 k h e (sym (t .2) ∙ z) ∙ sym e

@@ -20,13 +20,14 @@ use Rattle.types.specs.declared.Refusal.{Refusal}
 use Rattle.types.specs.declared.Refusal.the-variants.{NOutside, FracnOutside, PDividerAbove128, PDividerOdd}
 use Rattle.ieee754.specs.Steps.{float, fracnOf, vcoOf}
 use Rattle.rules.specs.Document01.Result.{Result, refused, ok, _>>=_, _>>_, require}
-use Rattle.rules.specs.Document01.OnePll.{firstOf, taken, fractionOf, vcoBy, dividerP, allowedP, settled, running}
+use Rattle.rules.specs.Document01.OnePll.{taken, fractionOf, vcoBy, dividerP, allowedP, settled, running}
 use Rattle.pll.specs.declared.PllAnswer.the-variants.{Planned, Refused}
 use Rattle.pll.specs.declared.settle.Chosen.{Chosen}
 use Rattle.pll.specs.declared.settle.Multiplied.{Multiplied}
 use Rattle.pll.specs.declared.settle.Multiplied.the-variants as Multiplied
 use Rattle.pll.specs.Answer.{pllAnswer}
-use Rattle.pll.specs.Settle.{multiplied, settledFor, placed, placedSettings}
+use Rattle.pll.specs.Spans.{asked, strategyOf, requestOf}
+use Rattle.pll.specs.Settle.{firstAsked, multiplied, settledFor, placed, placedSettings}
 
 -- ---- FRACN and the VCO
 module _ (r n d o : ℕ) where
@@ -37,21 +38,21 @@ module _ (r n d o : ℕ) where
   by-none e = rw e
 
 -- ---- refusals 14 and 15
-module _ (odd : Bool) (a : PllRequest) (c : Chosen) (f : Fraction) (d : ℕ) (is : d ≡ dividerP (c .target) (a .p)) where
-  pub above-128 : 128 < d → Refused PDividerAbove128 ≡ pllAnswer (running (placed odd a c f))
+module _ (odd : Bool) (p q r : ℕ) (c : Chosen) (f : Fraction) (d : ℕ) (is : d ≡ dividerP (c .target) (asked p)) where
+  pub above-128 : 128 < d → Refused PDividerAbove128 ≡ pllAnswer (running (placed odd p q r c f))
   unfolding placed
   above-128 h = rw (← is, lt-leb d 128 h)
 
-  pub odd-one : odd ≡ false → d ≤ 128 → d % 2 ≡ 1 → Refused PDividerOdd ≡ pllAnswer (running (placed odd a c f))
+  pub odd-one : odd ≡ false → d ≤ 128 → d % 2 ≡ 1 → Refused PDividerOdd ≡ pllAnswer (running (placed odd p q r c f))
   unfolding placed
   odd-one o h e = rw (← is, le-leb d 128 h, o, ne-eqb (d % 2) 0 (λ z. omega arith))
 
-  pub allowed : (odd ≡ true) ⊎ (d % 2 ≡ 1 → ⊥) → d ≤ 128 → Planned (Runs (placedSettings a c f)) ≡ pllAnswer (running (placed odd a c f))
+  pub allowed : (odd ≡ true) ⊎ (d % 2 ≡ 1 → ⊥) → d ≤ 128 → Planned (Runs (placedSettings p q r c f)) ≡ pllAnswer (running (placed odd p q r c f))
   unfolding placed
   allowed (inl o) h = rw (← is, le-leb d 128 h, o)
   allowed (inr o) h = even odd
     where
-      even : (t : Bool) → Planned (Runs (placedSettings a c f)) ≡ pllAnswer (running (allowedP t (dividerP (c .target) (a .p)) >> ok (placedSettings a c f)))
+      even : (t : Bool) → Planned (Runs (placedSettings p q r c f)) ≡ pllAnswer (running (allowedP t (dividerP (c .target) (asked p)) >> ok (placedSettings p q r c f)))
       even true = rw (← is, le-leb d 128 h)
       even false = rw (← is, le-leb d 128 h, eq-eqb (d % 2) 0 (omega arith))
 
@@ -64,38 +65,41 @@ fraction-13 : (s : Strategy) (r n d o : ℕ) (x : Refusal) → fractionOf s r n 
 fraction-13 Integer r n d o x e = absurd (let z : _≡_ {A = ℕ} 0 1 = cc in omega arith)
 fraction-13 Fractional r n d o x e = only-13 (fracnOf (float r) (float n) (float d) (float o)) x e
 
-module _ (odd : Bool) (a : PllRequest) (vcosel target m r n : ℕ) (is : n ≡ target / r) where
+module _ (odd fractional : Bool) (p q r vcosel target m ref n : ℕ) (is : n ≡ target / ref) where
+  abbrev a : PllRequest
+  a = requestOf fractional p q r
+
   abbrev Answers : Type 0
   Answers = Rattle.pll.specs.declared.PllAnswer.PllAnswer
 
   abbrev chosen : ℕ → Chosen
-  chosen v = record { vcosel = vcosel; target = target; m = m; reference = r; n = n; vco = v }
+  chosen v = record { vcosel = vcosel; target = target; m = m; reference = ref; n = n; vco = v }
 
-  pub n-low : n < 4 → Refused NOutside ≡ pllAnswer (running (settledFor odd a vcosel target m r))
+  pub n-low : n < 4 → Refused NOutside ≡ pllAnswer (running (settledFor odd a vcosel target m ref))
   unfolding settledFor settled
   n-low h = rw (← is, lt-leb 4 n h)
 
-  pub n-high : 4 ≤ n → 512 < n → Refused NOutside ≡ pllAnswer (running (settledFor odd a vcosel target m r))
+  pub n-high : 4 ≤ n → 512 < n → Refused NOutside ≡ pllAnswer (running (settledFor odd a vcosel target m ref))
   unfolding settledFor settled
   n-high l h = rw (← is, le-leb 4 n l, lt-leb n 512 h)
 
   -- by what FRACN comes to
   module _ (low : 4 ≤ n) (high : n ≤ 512) where
     abbrev fraction : Result Fraction
-    fraction = fractionOf (a .strategy) r n (target / firstOf a) (firstOf a)
+    fraction = fractionOf (strategyOf fractional) ref n (target / firstAsked p q r) (firstAsked p q r)
 
-    pub fracn-out : multiplied r n fraction ≡ Multiplied.OutOfRange → Refused FracnOutside ≡ pllAnswer (running (settledFor odd a vcosel target m r))
-    unfolding settledFor settled
+    pub fracn-out : multiplied ref n fraction ≡ Multiplied.OutOfRange → Refused FracnOutside ≡ pllAnswer (running (settledFor odd a vcosel target m ref))
+    unfolding settledFor settled requestOf
     fracn-out e = rw (← is, le-leb 4 n low, le-leb n 512 high) (go fraction refl e)
       where
-        go : (x : Result Fraction) → fraction ≡ x → multiplied r n x ≡ Multiplied.OutOfRange → Refused FracnOutside ≡ pllAnswer (running (x >>= λ f. allowedP odd (dividerP target (a .p)) >> ok (Rattle.rules.specs.Document01.OnePll.settingsOf a (record { vcosel = vcosel; start = 0; end = 0; low = 0; high = 0 }) target m r n f)))
-        go (refused x) w e = rw (fraction-13 (a .strategy) r n (target / firstOf a) (firstOf a) x w)
+        go : (x : Result Fraction) → fraction ≡ x → multiplied ref n x ≡ Multiplied.OutOfRange → Refused FracnOutside ≡ pllAnswer (running (x >>= λ f. allowedP odd (dividerP target (asked p)) >> ok (Rattle.rules.specs.Document01.OnePll.settingsOf a (record { vcosel = vcosel; start = 0; end = 0; low = 0; high = 0 }) target m ref n f)))
+        go (refused x) w e = rw (fraction-13 (strategyOf fractional) ref n (target / firstAsked p q r) (firstAsked p q r) x w)
         go (ok f) w e = absurd (let z : _≡_ {A = ℕ} 0 1 = cc in omega arith)
 
-    pub fracn-in : (f : Fraction) (v : ℕ) → multiplied r n fraction ≡ Multiplied.By f v → pllAnswer (running (placed odd a (chosen v) f)) ≡ pllAnswer (running (settledFor odd a vcosel target m r))
-    unfolding settledFor settled placed
+    pub fracn-in : (f : Fraction) (v : ℕ) → multiplied ref n fraction ≡ Multiplied.By f v → pllAnswer (running (placed odd p q r (chosen v) f)) ≡ pllAnswer (running (settledFor odd a vcosel target m ref))
+    unfolding settledFor settled placed requestOf
     fracn-in f v e = rw (← is, le-leb 4 n low, le-leb n 512 high) (go fraction e)
       where
-        go : (x : Result Fraction) → multiplied r n x ≡ Multiplied.By f v → pllAnswer (running (allowedP odd (dividerP target (a .p)) >> ok (placedSettings a (chosen v) f))) ≡ pllAnswer (running (x >>= λ g. allowedP odd (dividerP target (a .p)) >> ok (Rattle.rules.specs.Document01.OnePll.settingsOf a (record { vcosel = vcosel; start = 0; end = 0; low = 0; high = 0 }) target m r n g)))
+        go : (x : Result Fraction) → multiplied ref n x ≡ Multiplied.By f v → pllAnswer (running (allowedP odd (dividerP target (asked p)) >> ok (placedSettings p q r (chosen v) f))) ≡ pllAnswer (running (x >>= λ g. allowedP odd (dividerP target (asked p)) >> ok (Rattle.rules.specs.Document01.OnePll.settingsOf a (record { vcosel = vcosel; start = 0; end = 0; low = 0; high = 0 }) target m ref n g)))
         go (refused x) e = absurd (let z : _≡_ {A = ℕ} 0 1 = cc in omega arith)
-        go (ok g) e = let p : g ≡ f = cc in let q : vcoBy g r n ≡ v = cc in rw (p, ← q, p)
+        go (ok g) e = let p : g ≡ f = cc in let q : vcoBy g ref n ≡ v = cc in rw (p, ← q, p)

@@ -1,108 +1,177 @@
--- Laws of the outputs' span: what the code counts is the least and the largest of document 01, and refusals 7, 8 and 9.
+-- Laws of the outputs as numbers, 0 for none: the request that they stand for, its span, and refusals 7, 8 and 9.
 use mathlib.Core.Path.{_≡_, refl, sym, ap, _∙_}
 use mathlib.Core.Bool.{Bool, true, false, not, cond, _&&_, _||_}
-use Prim.Native.Nat.{ℕ, _/_, _≤_, _<_, min, max}
+use Prim.Native.Nat.{ℕ, zero, suc, _/_, _≤_, _<_, min, max}
 use native.Mathlib.Omega.{arith}
 use lib.Dec.{leb, ltb, eqb}
-use borrow.Author.Tests.{le-leb, lt-leb, lt-ltb, le-ltb, ltb-true, ltb-false, ne-eqb}
+use borrow.Author.Tests.{le-leb, lt-leb, lt-ltb, le-ltb, ne-eqb, not-true, eqb-false}
 use Rattle.types.specs.declared.Hertz.{Hertz}
 use Rattle.types.specs.declared.Hertz.the-variants.{Unset, Hz}
+use Rattle.types.specs.declared.Strategy.{Strategy}
+use Rattle.types.specs.declared.Strategy.the-variants.{Integer, Fractional}
 use Rattle.types.specs.declared.PllRequest.{PllRequest}
+use Rattle.types.specs.declared.Pll.the-variants.{Idle}
 use Rattle.types.specs.declared.Refusal.the-variants.{OutputZero, OutputsTooFarApart, OutputTooHigh}
-use Rattle.rules.specs.Document01.Hertz.{isSet, notZero}
-use Rattle.rules.specs.Document01.OnePll.{wanted, noneZero, countedP, countedOutputs, least, largest, spanned, running, runs}
-use Rattle.laws.proofs.Tests.{by-test, and-left, and-right}
+use Rattle.rules.specs.Document01.Hertz.{isSet, notZero, hertzOr}
+use Rattle.rules.specs.Document01.OnePll.{wanted, noneZero, countedP, countedOutputs, least, largest, spanned, running, runs, pllOf}
+use Rattle.laws.proofs.Tests.{and-left, and-right}
 use Rattle.rules.proofs.Document01.Span.{Pos, pos-is, outputs, counted-pos, Span, span}
 use Rattle.pll.specs.declared.outputs.Outputs.{Outputs}
-use Rattle.pll.specs.declared.PllAnswer.the-variants.{Refused}
+use Rattle.pll.specs.declared.PllAnswer.the-variants.{Planned, Refused}
 use Rattle.pll.specs.Answer.{pllAnswer, afterSpan}
-use Rattle.pll.specs.Spans.{countedAs, lesser, spanWith, spanOf, Spanned}
+use Rattle.pll.specs.Spans.{asked, isFractional, strategyOf, requestOf, lesser, spanOf, Spanned}
 
--- ---- the least so far
-lesser-min : (x f : ℕ) → 1 ≤ x → lesser x f ≡ min x f
-lesser-min x f h =
-    by-test (ltb f x)
-    (λ t. let l = ltb-true f x t in rw (ne-eqb x 0 (λ e. omega arith), t) (omega arith))
-    (λ t. let l = ltb-false f x t in rw (ne-eqb x 0 (λ e. omega arith), t) (omega arith))
+-- ---- an output and its number
+pub asked-set : (f : ℕ) → (f ≡ 0 → ⊥) → asked f ≡ Hz f
+asked-set zero n = absurd (n refl)
+asked-set (suc f) n = refl
 
-counted-is : (odd : Bool) (f : ℕ) → countedAs (not odd) f ≡ countedP odd f
-counted-is true f = refl
-counted-is false f = refl
+asked-is : (h : Hertz) → notZero h ≡ true → asked (hertzOr h 0) ≡ h
+asked-is Unset t = refl
+asked-is (Hz f) t = asked-set f (eqb-false f 0 (not-true (eqb f 0) t))
 
-module _ (odd : Bool) (a : PllRequest) (w : wanted a ≡ true) (z : noneZero a ≡ true) where
-  posP : Pos (a .p)
-  posP = pos-is (a .p) (and-left (notZero (a .p)) _ z)
+strategy-is : (s : Strategy) → strategyOf (isFractional s) ≡ s
+strategy-is Integer = refl
+strategy-is Fractional = refl
 
-  posQ : Pos (a .q)
-  posQ = pos-is (a .q) (and-left (notZero (a .q)) _ (and-right (notZero (a .p)) _ z))
+-- a request with no output at 0 Hz is that of its numbers
+request-is : (a : PllRequest) → noneZero a ≡ true → requestOf (isFractional (a .strategy)) (hertzOr (a .p) 0) (hertzOr (a .q) 0) (hertzOr (a .r) 0) ≡ a
+unfolding requestOf
+request-is a z =
+    let y = and-right (notZero (a .p)) _ z in
+    rw (strategy-is (a .strategy), asked-is (a .p) (and-left (notZero (a .p)) _ z), asked-is (a .q) (and-left (notZero (a .q)) _ y), asked-is (a .r) (and-right (notZero (a .q)) _ y))
 
-  posR : Pos (a .r)
-  posR = pos-is (a .r) (and-right (notZero (a .q)) _ (and-right (notZero (a .p)) _ z))
+-- an output at 0 Hz is requested
+zero-wanted : (p q r : Hertz) → notZero p && (notZero q && notZero r) ≡ false → isSet p || (isSet q || isSet r) ≡ true
+zero-wanted (Hz p) q r f = refl
+zero-wanted Unset (Hz q) r f = refl
+zero-wanted Unset Unset (Hz r) f = refl
+zero-wanted Unset Unset Unset f = absurd (let z : _≡_ {A = ℕ} 0 1 = cc in omega arith)
 
-  pub spans : Span odd (a .p) (a .q) (a .r)
-  spans = span odd (a .p) (a .q) (a .r) posP posQ posR w
+pub asked-number : (f : ℕ) → hertzOr (asked f) 0 ≡ f
+asked-number zero = refl
+asked-number (suc f) = refl
 
--- as the code counts, and as document 01 does
-abbrev codeSpan : Bool → Hertz → Hertz → Hertz → Outputs
-codeSpan odd p q r = spanWith (spanWith (spanWith (record { least = 0; most = 0 }) (not odd) p) false q) false r
+not-zero : (f : ℕ) → notZero (asked f) ≡ true
+not-zero zero = refl
+not-zero (suc f) = rw (ne-eqb (suc f) 0 (λ e. omega arith))
 
-least-is : (odd : Bool) (p q r : Hertz) → Pos p → Pos q → Pos r → codeSpan odd p q r .least ≡ least (outputs odd p q r)
-least-is odd Unset Unset Unset a b c = refl
-least-is odd (Hz p) Unset Unset a b c = counted-is odd p
-least-is odd Unset (Hz q) Unset a b c = refl
-least-is odd Unset Unset (Hz r) a b c = refl
-least-is odd (Hz p) (Hz q) Unset a b c = rw (counted-is odd p) (lesser-min (countedP odd p) q (counted-pos odd p a))
-least-is odd (Hz p) Unset (Hz r) a b c = rw (counted-is odd p) (lesser-min (countedP odd p) r (counted-pos odd p a))
-least-is odd Unset (Hz q) (Hz r) a b c = lesser-min q r b
-least-is odd (Hz p) (Hz q) (Hz r) a b c =
-    let l : 1 ≤ countedP odd p = counted-pos odd p a in
-    rw (counted-is odd p, lesser-min (countedP odd p) q l) (lesser-min (min (countedP odd p) q) r (omega arith))
+-- ---- the least and the largest
+counted-none : (odd : Bool) → countedP odd 0 ≡ 0
+counted-none true = refl
+counted-none false = refl
 
-most-is : (odd : Bool) (p q r : Hertz) → codeSpan odd p q r .most ≡ largest (outputs odd p q r)
-most-is odd Unset Unset Unset = refl
-most-is odd (Hz p) Unset Unset = rw (counted-is odd p)
-most-is odd Unset (Hz q) Unset = refl
-most-is odd Unset Unset (Hz r) = refl
-most-is odd (Hz p) (Hz q) Unset = rw (counted-is odd p)
-most-is odd (Hz p) Unset (Hz r) = rw (counted-is odd p)
-most-is odd Unset (Hz q) (Hz r) = refl
-most-is odd (Hz p) (Hz q) (Hz r) = rw (counted-is odd p)
+pub lesser-none : (a : ℕ) → lesser a 0 ≡ a
+lesser-none zero = refl
+lesser-none (suc a) = refl
 
--- ---- refusals 7, 8 and 9, and what follows
+lesser-both : (a b : ℕ) → 1 ≤ a → 1 ≤ b → lesser a b ≡ min a b
+lesser-both zero b h k = absurd (omega arith)
+lesser-both (suc a) zero h k = absurd (omega arith)
+lesser-both (suc a) (suc b) h k = refl
+
+pub lesser-first : (a b : ℕ) → (a ≡ 0 → ⊥) → (b ≡ 0 → ⊥) → a ≤ b → a ≡ lesser a b
+lesser-first a b h k o = rw (lesser-both a b (omega arith) (omega arith)) (omega arith)
+
+pub lesser-second : (a b : ℕ) → (a ≡ 0 → ⊥) → (b ≡ 0 → ⊥) → b < a → b ≡ lesser a b
+lesser-second a b h k o = rw (lesser-both a b (omega arith) (omega arith)) (omega arith)
+
+least-is : (odd : Bool) (p q r : ℕ) → lesser (lesser (countedP odd p) q) r ≡ least (outputs odd (asked p) (asked q) (asked r))
+least-is odd zero zero zero = rw (counted-none odd)
+least-is odd zero zero (suc r) = rw (counted-none odd)
+least-is odd zero (suc q) zero = rw (counted-none odd)
+least-is odd zero (suc q) (suc r) = rw (counted-none odd)
+least-is odd (suc p) zero zero = lesser-none (lesser (countedP odd (suc p)) 0) ∙ lesser-none (countedP odd (suc p))
+least-is odd (suc p) (suc q) zero = lesser-none (lesser (countedP odd (suc p)) (suc q)) ∙ lesser-both (countedP odd (suc p)) (suc q) (counted-pos odd (suc p) (omega arith)) (omega arith)
+least-is odd (suc p) zero (suc r) = rw (lesser-none (countedP odd (suc p))) (lesser-both (countedP odd (suc p)) (suc r) (counted-pos odd (suc p) (omega arith)) (omega arith))
+least-is odd (suc p) (suc q) (suc r) =
+    let l = counted-pos odd (suc p) (omega arith) in
+    rw (lesser-both (countedP odd (suc p)) (suc q) l (omega arith)) (lesser-both (min (countedP odd (suc p)) (suc q)) (suc r) (omega arith) (omega arith))
+
+most-is : (odd : Bool) (p q r : ℕ) → max (max (countedP odd p) q) r ≡ largest (outputs odd (asked p) (asked q) (asked r))
+most-is odd zero zero zero = rw (counted-none odd)
+most-is odd zero zero (suc r) = rw (counted-none odd)
+most-is odd zero (suc q) zero = rw (counted-none odd) (omega arith)
+most-is odd zero (suc q) (suc r) = rw (counted-none odd)
+most-is odd (suc p) zero zero = omega arith
+most-is odd (suc p) (suc q) zero = omega arith
+most-is odd (suc p) zero (suc r) = omega arith
+most-is odd (suc p) (suc q) (suc r) = omega arith
+
+none-wanted : (odd : Bool) (p q r : ℕ) → max (max (countedP odd p) q) r ≡ 0 → isSet (asked p) || (isSet (asked q) || isSet (asked r)) ≡ false
+none-wanted odd zero zero zero e = refl
+none-wanted odd zero zero (suc r) e = absurd (omega arith)
+none-wanted odd zero (suc q) r e = absurd (omega arith)
+none-wanted odd (suc p) q r e = absurd (let l = counted-pos odd (suc p) (omega arith) in omega arith)
+
+some-wanted : (odd : Bool) (p q r : ℕ) → (max (max (countedP odd p) q) r ≡ 0 → ⊥) → isSet (asked p) || (isSet (asked q) || isSet (asked r)) ≡ true
+some-wanted odd zero zero zero n = absurd (n (rw (counted-none odd)))
+some-wanted odd zero zero (suc r) n = refl
+some-wanted odd zero (suc q) r n = refl
+some-wanted odd (suc p) q r n = refl
+
+-- ---- refusal 7, and a request by its numbers
 module _ (odd : Bool) (source : ℕ) (a : PllRequest) where
-  pub zero-output : noneZero a ≡ false → Refused OutputZero ≡ pllAnswer (running (runs odd source a))
-  unfolding runs spanned
-  zero-output f = rw f
+  pub zero-output : noneZero a ≡ false → Refused OutputZero ≡ pllAnswer (pllOf odd source a)
+  unfolding pllOf runs spanned
+  zero-output f = rw (zero-wanted (a .p) (a .q) (a .r) f, f)
 
-  module _ (w : wanted a ≡ true) (z : noneZero a ≡ true) (s : Outputs) (is : s ≡ spanOf odd a) where
-    pub low-is : s .least ≡ least (countedOutputs odd a)
-    unfolding spanOf
-    low-is = ap (λ (x : Outputs). x .least) is ∙ least-is odd (a .p) (a .q) (a .r) (posP odd a w z) (posQ odd a w z) (posR odd a w z)
+  pub by-numbers : noneZero a ≡ true → (f : Bool) (p q r : ℕ) → f ≡ isFractional (a .strategy) → p ≡ hertzOr (a .p) 0 → q ≡ hertzOr (a .q) 0 → r ≡ hertzOr (a .r) 0 → pllAnswer (pllOf odd source (requestOf f p q r)) ≡ pllAnswer (pllOf odd source a)
+  by-numbers z f p q r e x y w = rw (e, x, y, w, request-is a z)
 
-    pub high-is : s .most ≡ largest (countedOutputs odd a)
-    unfolding spanOf
-    high-is = ap (λ (x : Outputs). x .most) is ∙ most-is odd (a .p) (a .q) (a .r)
+-- ---- idle, refusals 8 and 9, and what follows
+module _ (odd : Bool) (source : ℕ) (fractional : Bool) (p q r : ℕ) (s : Outputs) (is : s ≡ spanOf odd p q r) where
+  abbrev a : PllRequest
+  a = requestOf fractional p q r
+
+  z : noneZero a ≡ true
+  unfolding requestOf
+  z = rw (not-zero p, not-zero q, not-zero r)
+
+  low-is : s .least ≡ least (countedOutputs odd a)
+  unfolding spanOf requestOf
+  low-is = ap (λ (x : Outputs). x .least) is ∙ least-is odd p q r
+
+  counts : s .most ≡ max (max (countedP odd p) q) r
+  unfolding spanOf
+  counts = ap (λ (x : Outputs). x .most) is
+
+  high-is : s .most ≡ largest (countedOutputs odd a)
+  unfolding requestOf
+  high-is = counts ∙ most-is odd p q r
+
+  pub idle : s .most ≡ 0 → Planned Idle ≡ pllAnswer (pllOf odd source a)
+  unfolding pllOf requestOf
+  idle e = rw (none-wanted odd p q r (sym counts ∙ e))
+
+  module _ (n : s .most ≡ 0 → ⊥) where
+    w : wanted a ≡ true
+    unfolding requestOf
+    w = some-wanted odd p q r (λ e. n (counts ∙ e))
+
+    spans : Span odd (asked p) (asked q) (asked r)
+    unfolding requestOf
+    spans = span odd (asked p) (asked q) (asked r) (pos-is (asked p) (not-zero p)) (pos-is (asked q) (not-zero q)) (pos-is (asked r) (not-zero r)) w
 
     pub ordered : s .least ≤ s .most
-    ordered = rw (low-is, high-is) (spans odd a w z .order)
+    unfolding requestOf
+    ordered = rw (low-is, high-is) (spans .order)
 
-    pub far : s .least < s .most / 128 → Refused OutputsTooFarApart ≡ pllAnswer (running (runs odd source a))
-    unfolding runs spanned
-    far h = let l : leb (largest (countedOutputs odd a) / 128) (least (countedOutputs odd a)) ≡ false = lt-leb _ _ (rw (low-is, high-is) at h) in rw (z, l)
+    pub far : s .least < s .most / 128 → Refused OutputsTooFarApart ≡ pllAnswer (pllOf odd source a)
+    unfolding pllOf runs spanned
+    far h = let l : leb (largest (countedOutputs odd a) / 128) (least (countedOutputs odd a)) ≡ false = lt-leb _ _ (rw (low-is, high-is) at h) in rw (w, z, l)
 
-    pub high : s .most / 128 ≤ s .least → 560_000_000 ≤ s .most → Refused OutputTooHigh ≡ pllAnswer (running (runs odd source a))
-    unfolding runs spanned
-    high n h =
-        let l : leb (largest (countedOutputs odd a) / 128) (least (countedOutputs odd a)) ≡ true = le-leb _ _ (rw (low-is, high-is) at n) in
-        let k : ltb (largest (countedOutputs odd a)) 560_000_000 ≡ false = le-ltb _ _ (rw high-is at h) in
-        rw (z, l, k)
+    module _ (near : s .most / 128 ≤ s .least) where
+      l : leb (largest (countedOutputs odd a) / 128) (least (countedOutputs odd a)) ≡ true
+      l = le-leb _ _ (rw (low-is, high-is) at near)
 
-    pub goes-on : s .most / 128 ≤ s .least → s .most < 560_000_000 → pllAnswer (afterSpan odd source a) ≡ pllAnswer (running (runs odd source a))
-    unfolding runs spanned afterSpan
-    goes-on n h =
-        let l : leb (largest (countedOutputs odd a) / 128) (least (countedOutputs odd a)) ≡ true = le-leb _ _ (rw (low-is, high-is) at n) in
-        let k : ltb (largest (countedOutputs odd a)) 560_000_000 ≡ true = lt-ltb _ _ (rw high-is at h) in
-        rw (z, l, k)
+      pub high : 560_000_000 ≤ s .most → Refused OutputTooHigh ≡ pllAnswer (pllOf odd source a)
+      unfolding pllOf runs spanned
+      high h = let k : ltb (largest (countedOutputs odd a)) 560_000_000 ≡ false = le-ltb _ _ (rw high-is at h) in rw (w, z, l, k)
 
-    pub spanned-is : 1 ≤ source → s .most / 128 ≤ s .least → s .most < 560_000_000 → Spanned odd source a (s .least) (s .most)
-    spanned-is o n h = record { source-above = o; some = w; none-zero = z; low-is = low-is; most-is = high-is; near = n; below = h }
+      pub goes-on : s .most < 560_000_000 → pllAnswer (afterSpan odd source a) ≡ pllAnswer (pllOf odd source a)
+      unfolding pllOf runs spanned afterSpan
+      goes-on h = let k : ltb (largest (countedOutputs odd a)) 560_000_000 ≡ true = lt-ltb _ _ (rw high-is at h) in rw (w, z, l, k)
+
+      pub spanned-is : 1 ≤ source → s .most < 560_000_000 → Spanned odd source a (s .least) (s .most)
+      spanned-is o h = record { source-above = o; some = w; none-zero = z; low-is = low-is; most-is = high-is; near = near; below = h }

@@ -1,34 +1,42 @@
--- For the private functions: the outputs of a PLL one after the other, and a VCO range as the code has it.
+-- For the private functions: a request as the code has it, the outputs of a PLL one after the other, and a VCO range.
 use mathlib.Core.Path.{_≡_}
-use mathlib.Core.Bool.{Bool, true, false, not, cond}
-use Prim.Native.Nat.{ℕ, _*_, _/_, _≤_, _<_, max}
-use lib.Dec.{eqb, ltb}
+use mathlib.Core.Bool.{Bool, true, false}
+use Prim.Native.Nat.{ℕ, zero, suc, _/_, _≤_, _<_, min, max}
 use Rattle.types.specs.declared.Hertz.{Hertz}
 use Rattle.types.specs.declared.Hertz.the-variants.{Unset, Hz}
+use Rattle.types.specs.declared.Strategy.{Strategy}
+use Rattle.types.specs.declared.Strategy.the-variants.{Integer, Fractional}
 use Rattle.types.specs.declared.PllRequest.{PllRequest}
-use Rattle.rules.specs.Document01.OnePll.{noneZero, wanted, countedOutputs, least, largest, Range}
+use Rattle.rules.specs.Document01.OnePll.{noneZero, wanted, countedP, countedOutputs, least, largest, Range}
 use Rattle.pll.specs.declared.outputs.Outputs.{Outputs}
 use Rattle.pll.specs.declared.vco.VcoRange.{VcoRange}
 
--- an output as it counts
-abbrev pub countedAs : (twice : Bool) → ℕ → ℕ
-countedAs true f = f * 2
-countedAs false f = f
+-- an output by its hertz, 0 for none
+abbrev pub asked : ℕ → Hertz
+asked zero = Unset
+asked (suc f) = Hz (suc f)
 
--- the lesser of the least so far, 0 for none, and one more
+abbrev pub isFractional : Strategy → Bool
+isFractional Integer = false
+isFractional Fractional = true
+
+abbrev pub strategyOf : (fractional : Bool) → Strategy
+strategyOf true = Fractional
+strategyOf false = Integer
+
+-- the request of these numbers
+unfoldable pub requestOf : (fractional : Bool) → (p q r : ℕ) → PllRequest
+requestOf fractional p q r = record { strategy = strategyOf fractional; p = asked p; q = asked q; r = asked r }
+
+-- the lesser of two outputs, 0 for none
 abbrev pub lesser : ℕ → ℕ → ℕ
-lesser so-far f = cond (eqb so-far 0) f (cond (ltb f so-far) f so-far)
+lesser zero b = b
+lesser (suc a) zero = suc a
+lesser (suc a) (suc b) = min (suc a) (suc b)
 
-abbrev pub counting : Outputs → ℕ → Outputs
-counting s f = record { least = lesser (s .least) f; most = max (s .most) f }
-
-abbrev pub spanWith : Outputs → (twice : Bool) → Hertz → Outputs
-spanWith s twice Unset = s
-spanWith s twice (Hz f) = counting s (countedAs twice f)
-
--- P, then Q, then R
-unfoldable pub spanOf : (odd : Bool) → PllRequest → Outputs
-spanOf odd a = spanWith (spanWith (spanWith (record { least = 0; most = 0 }) (not odd) (a .p)) false (a .q)) false (a .r)
+-- of P, Q and R
+unfoldable pub spanOf : (odd : Bool) → (p q r : ℕ) → Outputs
+spanOf odd p q r = record { least = lesser (lesser (countedP odd p) q) r; most = max (max (countedP odd p) q) r }
 
 -- the outputs span from least to most, and 7, 8 and 9 do not fit
 pub record Spanned (odd : Bool) (source : ℕ) (a : PllRequest) (low most : ℕ) : Type 0 where

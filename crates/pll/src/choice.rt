@@ -3,7 +3,8 @@ ghost use mathlib.Core.Path.{_≡_};
 ghost use Prim.Native.Nat.{_/_, _≤_, _<_, min};
 ghost use lib.IntN.{pos};
 ghost use Rattle.rules.specs.Document01.ChoiceOfM.{shortfallOf, chosenM};
-ghost use Rattle.pll.specs.Search.{numberOf};
+ghost use mathlib.Core.Bool.{true, false};
+ghost use Rattle.pll.specs.Search.{numberOf, Over};
 
 // What the reference times N falls short of the target: a difference of two i32, and never below 0.
 fn shortfall(source: u32, target: u32, m: u32) -> i32
@@ -27,6 +28,20 @@ fn last_m(source: u32, low: u32) -> u32
     63
 }
 
+// Whether the search goes on: not past the last M, and not once an M falls short by nothing, which no other betters.
+fn goes_on(m: u32, last: u32, best: u32, exact: bool) -> bool
+    ensures on { λ r. ⌜ (r ≡ true → m ≤ last) ⌝ }
+    ensures off { λ r. ⌜ (r ≡ false → Over m last best exact) ⌝ }
+{
+    if last < m {
+        return false;
+    }
+    if best == 0 {
+        return true;
+    }
+    !exact
+}
+
 // The search over all M from the first to the last that is admissible; 0 where there is none.
 pub fn search_m(source: u32, target: u32, low: u32, high: u32) -> u32
     requires { ⌜ (1 ≤ source) × (1 ≤ low) × (1 ≤ high) × (target < 2147483648) ⌝ }
@@ -36,7 +51,7 @@ pub fn search_m(source: u32, target: u32, low: u32, high: u32) -> u32
     let mut best: u32 = 0;
     let mut least: i32 = 0;
     let mut m = (source - 1) / high + 1;
-    while m <= last {
+    while goes_on(m, last, best, least == 0) {
         let short = shortfall(source, target, m);
         if best == 0 || short < least {
             best = m;

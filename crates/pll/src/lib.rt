@@ -1,10 +1,9 @@
 // One PLL, from its request to its settings or a refusal: pll.rs.
 ghost use mathlib.Core.Path.{_≡_};
-ghost use mathlib.Core.Bool.{true};
 ghost use Prim.Native.Nat.{_≤_};
-ghost use Rattle.rules.specs.Document01.OnePll as Rules;
+ghost use Rattle.rules.specs.Document01.OnePll.{pllOf};
 ghost use Rattle.pll.specs.Answer.{pllAnswer, onePllOf, afterSpan};
-ghost use Rattle.pll.specs.Spans.{Spanned};
+ghost use Rattle.pll.specs.Spans.{requestOf, Spanned};
 use types::Pll;
 use types::PllRequest;
 use types::Refusal;
@@ -26,36 +25,56 @@ pub fn plan_pll(odd: bool, source: u32, request: PllRequest) -> PllAnswer
     if source == 0 {
         return PllAnswer::Refused(Refusal::SourceZero);
     }
-    if !outputs::wanted(request) {
-        return PllAnswer::Planned(Pll::Idle);
-    }
-    run_pll(odd, source, request)
-}
-
-// Refusals 7, 8 and 9.
-fn run_pll(odd: bool, source: u32, request: PllRequest) -> PllAnswer
-    requires { ⌜ (1 ≤ source) × (Rules.wanted request ≡ true) ⌝ }
-    ensures { λ r. ⌜ r ≡ pllAnswer (Rules.running (Rules.runs odd source request)) ⌝ }
-{
     if !outputs::none_zero(request) {
         return PllAnswer::Refused(Refusal::OutputZero);
     }
-    let s = outputs::span_of(odd, request);
+    let strategy = request.strategy;
+    let p = request.p;
+    let q = request.q;
+    let r = request.r;
+    run_pll(
+        odd,
+        source,
+        outputs::is_fractional(strategy),
+        outputs::hertz(p),
+        outputs::hertz(q),
+        outputs::hertz(r),
+    )
+}
+
+// Idle, or refusals 8 and 9. From here on an output is its hertz, 0 where it is not requested.
+fn run_pll(odd: bool, source: u32, fractional: bool, p: u32, q: u32, r: u32) -> PllAnswer
+    requires { ⌜ 1 ≤ source ⌝ }
+    ensures { λ a. ⌜ a ≡ pllAnswer (pllOf odd source (requestOf fractional p q r)) ⌝ }
+{
+    let s = outputs::span_of(odd, p, q, r);
     let least = s.least;
     let most = s.most;
+    if most == 0 {
+        return PllAnswer::Planned(Pll::Idle);
+    }
     if least < most / 128 {
         return PllAnswer::Refused(Refusal::OutputsTooFarApart);
     }
     if 560_000_000 <= most {
         return PllAnswer::Refused(Refusal::OutputTooHigh);
     }
-    divide(odd, source, request, least as u32, most as u32)
+    divide(odd, source, fractional, p, q, r, least as u32, most as u32)
 }
 
 // Refusals 10 and 11: the VCO's range and target, and M.
-fn divide(odd: bool, source: u32, request: PllRequest, least: u32, most: u32) -> PllAnswer
-    requires { ⌜ Spanned odd source request least most ⌝ }
-    ensures { λ r. ⌜ r ≡ pllAnswer (afterSpan odd source request) ⌝ }
+fn divide(
+    odd: bool,
+    source: u32,
+    fractional: bool,
+    p: u32,
+    q: u32,
+    r: u32,
+    least: u32,
+    most: u32,
+) -> PllAnswer
+    requires { ⌜ Spanned odd source (requestOf fractional p q r) least most ⌝ }
+    ensures { λ a. ⌜ a ≡ pllAnswer (afterSpan odd source (requestOf fractional p q r)) ⌝ }
 {
     let g = vco::range_of(most);
     let target = vco::target_of(least, most, g.end);
@@ -66,6 +85,5 @@ fn divide(odd: bool, source: u32, request: PllRequest, least: u32, most: u32) ->
     if m == 0 {
         return PllAnswer::Refused(Refusal::NoM);
     }
-    let reference = source / m;
-    settle::settle(odd, request, g.vcosel, target, m, reference)
+    settle::settle(odd, fractional, p, q, r, g.vcosel, target, m, source / m)
 }

@@ -1,21 +1,13 @@
-// The outputs requested of a PLL: which there are, the least and the largest as they count.
+// The outputs requested of a PLL, each as its hertz, 0 where it is not requested: the least and the largest as they count.
 ghost use mathlib.Core.Path.{_≡_};
 ghost use Prim.Native.Nat.{max};
-ghost use Rattle.rules.specs.Document01.Hertz.{isSet, notZero};
+ghost use Rattle.rules.specs.Document01.Hertz.{notZero, hertzOr};
 ghost use Rattle.rules.specs.Document01.OnePll as Rules;
 ghost use Rattle.pll.specs.Spans as Spans;
-ghost use Rattle.pll.specs.Spans.{countedAs, spanWith, spanOf};
+ghost use Rattle.pll.specs.Spans.{isFractional, spanOf};
 use types::Hertz;
 use types::PllRequest;
-
-fn is_set(h: Hertz) -> bool
-    ensures { λ r. ⌜ r ≡ isSet h ⌝ }
-{
-    match h {
-        Hertz::Unset => false,
-        Hertz::Hz(_) => true,
-    }
-}
+use types::Strategy;
 
 fn not_zero(h: Hertz) -> bool
     ensures { λ r. ⌜ r ≡ notZero h ⌝ }
@@ -24,22 +16,6 @@ fn not_zero(h: Hertz) -> bool
         Hertz::Unset => true,
         Hertz::Hz(f) => f != 0,
     }
-}
-
-// Whether an output is requested.
-pub fn wanted(a: PllRequest) -> bool
-    ensures { λ r. ⌜ r ≡ Rules.wanted a ⌝ }
-{
-    let p = a.p;
-    let q = a.q;
-    let r = a.r;
-    if is_set(p) {
-        return true;
-    }
-    if is_set(q) {
-        return true;
-    }
-    is_set(r)
 }
 
 // Whether no output is requested at 0 Hz.
@@ -57,70 +33,72 @@ pub fn none_zero(a: PllRequest) -> bool
     false
 }
 
-// The least output so far, 0 for none, and the largest. A doubled P may pass 32 bits.
+pub fn hertz(h: Hertz) -> u32
+    ensures { λ r. ⌜ r ≡ hertzOr h 0 ⌝ }
+{
+    match h {
+        Hertz::Unset => 0,
+        Hertz::Hz(f) => f,
+    }
+}
+
+pub fn is_fractional(s: Strategy) -> bool
+    ensures { λ r. ⌜ r ≡ isFractional s ⌝ }
+{
+    match s {
+        Strategy::Integer => false,
+        Strategy::Fractional => true,
+    }
+}
+
+// The least output, 0 for none, and the largest. A doubled P may pass 32 bits.
 pub struct Outputs {
     pub least: u64,
     pub most: u64,
 }
 
-// The same with one more output, which may count doubled.
-fn with_output(s: Outputs, h: Hertz, twice: bool) -> Outputs
-    ensures { λ r. ⌜ r ≡ spanWith s twice h ⌝ }
+// P counts doubled where odd P is forbidden.
+fn counted(odd: bool, f: u32) -> u64
+    ensures { λ r. ⌜ r ≡ Rules.countedP odd f ⌝ }
 {
-    match h {
-        Hertz::Unset => s,
-        Hertz::Hz(f) => counting(s, counted(f, twice)),
+    if odd {
+        return f as u64;
     }
+    (f as u64) * 2
 }
 
-fn counted(f: u32, twice: bool) -> u64
-    ensures { λ r. ⌜ r ≡ countedAs twice f ⌝ }
+// The lesser of two outputs; 0 is none.
+fn lesser(a: u64, b: u64) -> u64
+    ensures { λ r. ⌜ r ≡ Spans.lesser a b ⌝ }
 {
-    if twice {
-        return (f as u64) * 2;
+    if a == 0 {
+        return b;
     }
-    f as u64
+    if b == 0 {
+        return a;
+    }
+    if b < a {
+        return b;
+    }
+    a
 }
 
-fn counting(s: Outputs, f: u64) -> Outputs
-    ensures { λ r. ⌜ r ≡ Spans.counting s f ⌝ }
+fn larger(a: u64, b: u64) -> u64
+    ensures { λ r. ⌜ r ≡ max a b ⌝ }
 {
-    let least = s.least;
-    let most = s.most;
+    if a < b {
+        return b;
+    }
+    a
+}
+
+// The least and the largest of P, Q, R.
+pub fn span_of(odd: bool, p: u32, q: u32, r: u32) -> Outputs
+    ensures { λ s. ⌜ s ≡ spanOf odd p q r ⌝ }
+{
+    let first = counted(odd, p);
     Outputs {
-        least: lesser(least, f),
-        most: larger(most, f),
+        least: lesser(lesser(first, q as u64), r as u64),
+        most: larger(larger(first, q as u64), r as u64),
     }
-}
-
-fn lesser(least: u64, f: u64) -> u64
-    ensures { λ r. ⌜ r ≡ Spans.lesser least f ⌝ }
-{
-    if least == 0 {
-        return f;
-    }
-    if f < least {
-        return f;
-    }
-    least
-}
-
-fn larger(most: u64, f: u64) -> u64
-    ensures { λ r. ⌜ r ≡ max most f ⌝ }
-{
-    if most < f {
-        return f;
-    }
-    most
-}
-
-// The least and the largest of P, Q, R; P counts doubled where odd P is forbidden.
-pub fn span_of(odd: bool, a: PllRequest) -> Outputs
-    ensures { λ r. ⌜ r ≡ spanOf odd a ⌝ }
-{
-    let p = a.p;
-    let q = a.q;
-    let r = a.r;
-    let none = Outputs { least: 0, most: 0 };
-    with_output(with_output(with_output(none, p, !odd), q, false), r, false)
 }

@@ -38,11 +38,21 @@ pub fn shows(w: VoltageWalk) -> Shown
     }
     let at = w.at;
     match at {
-        0 => Shown::Next(Entry::Wait(ACTVOSRDY, 1)),
-        1 => Shown::Next(Entry::Read(ACTVOS)),
-        2 => Shown::Next(Entry::Set(VOS, 3 - target)),
-        3 => Shown::Next(Entry::Wait(VOSRDY, 1)),
-        _ => Shown::Finished,
+        0 => {
+            return Shown::Next(Entry::Wait(ACTVOSRDY, 1));
+        }
+        1 => {
+            return Shown::Next(Entry::Read(ACTVOS));
+        }
+        2 => {
+            return Shown::Next(Entry::Set(VOS, 3 - target));
+        }
+        3 => {
+            return Shown::Next(Entry::Wait(VOSRDY, 1));
+        }
+        _ => {
+            return Shown::Finished;
+        }
     }
 }
 

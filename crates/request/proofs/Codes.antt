@@ -1,6 +1,5 @@
--- Laws on codes: a code that is in no row of a match, and the sizes.
+-- Laws on codes: a code that is in no row of a match.
 use mathlib.Core.Path.{_≡_, refl, sym}
-use mathlib.Core.Bool.{Bool, true, false}
 use mathlib.Core.List.{List, [], _∷_}
 use Prim.Native.Nat.{ℕ, zero, suc, _≤_, _<_}
 use native.Mathlib.Omega.{arith}
@@ -10,16 +9,11 @@ use Rattle.types.specs.declared.Mco1Source.{Mco1Source}
 use Rattle.types.specs.declared.Mco2Source.{Mco2Source}
 use Rattle.rules.specs.Document01.Chip.{scaleOf}
 use Rattle.rules.specs.Document01.Bytes.{mco1Sources, mco2Sources}
-use Rattle.request.specs.Parts.{sizeOf}
 
 -- the first of a list stands for 0, and for what is past the end
 other : {A : Type 0} (xs : List A) (d : A) (n : ℕ) → (1 ≤ n → length xs < n) → getD (d ∷ xs) n d ≡ d
 other xs d zero h = refl
 other xs d (suc n) h = let k : length xs < suc n = h (omega arith) in List·getD-eq-default xs d (omega arith)
-
-pub at-least : (three : Bool) → 90 ≤ sizeOf three
-at-least true = omega arith
-at-least false = omega arith
 
 -- the voltage scale
 pub scale-other : (n : ℕ) → (1 ≤ n → 3 < n) → Scale0 ≡ scaleOf n

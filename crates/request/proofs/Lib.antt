@@ -1,4 +1,3 @@
 pub mod Codes
 pub mod Chips
 pub mod Reading
-pub mod Writing

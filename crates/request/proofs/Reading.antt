@@ -8,7 +8,7 @@ use native.Mathlib.Numerals.{add-one}
 use lib.Dec.{eqb, ltb}
 use lib.ListN.{length, getD, drop, drop-of-length-le}
 use lib.Seq.{drop-cons}
-use borrow.Author.Tests.{ltb-true}
+use borrow.Author.Tests.{ltb-true, eq-eqb, ne-eqb}
 use Rattle.laws.proofs.Tests.{by-test}
 use Rattle.types.specs.declared.Hertz.the-variants.{Unset, Hz}
 use Rattle.types.specs.declared.Refusal.the-variants.{OutsideCodes}
@@ -21,14 +21,13 @@ use Rattle.types.specs.declared.PllRequest.{PllRequest}
 use Rattle.rules.specs.Document01.Chip.{chipOf}
 use Rattle.rules.specs.Document01.Result as Result
 use Rattle.rules.specs.Document01.Result.{Result, refused, ok}
-use Rattle.rules.specs.Document01.Bytes.{Read, Reader, _>>=_, return, mco1Sources, mco2Sources, byte, end, code, word, setTo, hertz, flag, mco1Source, mco2Source, strategy, pllPart, thirdPart, requestPart, AllBytes}
+use Rattle.rules.specs.Document01.Bytes.{Read, Reader, _>>=_, return, mco1Sources, mco2Sources, byte, end, code, word, setTo, hertz, flag, mco1Source, mco2Source, strategy, pllPart, thirdPart, requestPart, sizeOf, AllBytes}
 use Rattle.rules.specs.Document01.Plan.{Asked, requestOf}
 use Rattle.rules.proofs.Document01.Results.{ok-same}
-use Rattle.rules.proofs.Document01.BytesWhole.{accepted-length, asked-by}
-use Rattle.request.specs.Parts.{sizeOf, codeOk, wordAt, hertzOk, hertzAt, flagAt, mco1At, mco2At, strategyAt, pllOk, partAt, thirdOk, thirdAt, pllsOk, formed, decoded}
+use Rattle.rules.proofs.Document01.BytesWhole.{at-least, accepted-length, asked-by}
+use Rattle.request.specs.Parts.{codeOk, wordAt, hertzOk, hertzAt, flagAt, mco1At, mco2At, strategyAt, pllOk, partAt, thirdOk, thirdAt, pllsOk, formed, decoded}
 use Rattle.request.specs.Chips.{chipOk, stateOf}
-use Rattle.request.specs.Request.{requestRead, blankRead}
-use Rattle.request.proofs.Codes.{at-least}
+use Rattle.request.specs.Request.{requestRead, blankRead, partOf, partRead, nothingRead}
 use Rattle.request.proofs.Chips.{chip-is}
 
 -- refusal 1, unless a test holds
@@ -204,3 +203,21 @@ module _ (l : List ℕ) (chip : Chip) where
       pub taken : formed (stateOf chip .three) l ≡ true → requestRead (requestOf l chip) ≡ record { read = true; request = decoded (stateOf chip .three) l; chip = stateOf chip }
       unfolding requestOf
       taken t = rw (known, request-is (stateOf chip .three) l size, t)
+
+-- ---- one PLL's part by itself
+module _ (l : List ℕ) where
+  pub bad-part-size : (length l ≡ 16 → ⊥) → partRead (partOf l) ≡ nothingRead
+  unfolding partOf
+  bad-part-size n = rw (ne-eqb (length l) 16 n)
+
+  module _ (size : length l ≡ 16) where
+    part-is : pllPart l ≡ only (pllOk l 0) (record { value = partAt l 0; rest = drop 16 l })
+    part-is = pll-part .reads l 0 (omega arith)
+
+    pub bad-part : pllOk l 0 ≡ false → partRead (partOf l) ≡ nothingRead
+    unfolding partOf
+    bad-part t = rw (eq-eqb (length l) 16 size, part-is, t)
+
+    pub part-taken : pllOk l 0 ≡ true → partRead (partOf l) ≡ record { read = true; part = partAt l 0 }
+    unfolding partOf
+    part-taken t = rw (eq-eqb (length l) 16 size, part-is, t)

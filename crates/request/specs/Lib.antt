@@ -1,4 +1,3 @@
 pub mod Parts
 pub mod Chips
 pub mod Request
-pub mod Writing

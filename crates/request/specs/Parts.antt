@@ -14,12 +14,6 @@ use Rattle.types.specs.declared.Mco2Source.{Mco2Source}
 use Rattle.types.specs.declared.PllRequest.{PllRequest}
 use Rattle.types.specs.declared.Request.{Request}
 use Rattle.rules.specs.Document01.Bytes.{mco1Sources, mco2Sources, noPart}
-use Rattle.request.specs.declared.parts.Clocks.{Clocks}
-use Rattle.request.specs.declared.parts.Outputs.{Outputs}
-
--- 90 bytes on two PLLs, 106 on three
-abbrev pub sizeOf : (three : Bool) → ℕ
-sizeOf three = cond three 106 90
 
 -- a code: a byte below n
 abbrev pub codeOk : (n : ℕ) → List ℕ → ℕ → Bool
@@ -91,9 +85,9 @@ pllsOk three l = pllOk l 58 && (pllOk l 74 && thirdOk three l)
 unfoldable pub formed : (three : Bool) → List ℕ → Bool
 formed three l = clocksOk l && (outputsOk l && pllsOk three l)
 
--- the clocks of a request
-abbrev pub clocksAt : List ℕ → Clocks
-clocksAt l = record {
+-- the request itself
+unfoldable pub decoded : (three : Bool) → List ℕ → Request
+decoded three l = record {
   hse = hertzAt l 0;
   lse = hertzAt l 5;
   audio = hertzAt l 10;
@@ -103,32 +97,10 @@ clocksAt l = record {
   apb1 = hertzAt l 30;
   apb2 = hertzAt l 35;
   apb3 = hertzAt l 40;
+  bypass = flagAt l 45;
+  mco1source = mco1At l 46;
+  mco1 = hertzAt l 47;
+  mco2source = mco2At l 52;
+  mco2 = hertzAt l 53;
+  plls = partAt l 58 ∷ partAt l 74 ∷ thirdAt three l ∷ [];
 }
-
--- its outputs
-abbrev pub outputsAt : List ℕ → Outputs
-outputsAt l = record { bypass = flagAt l 45; source1 = mco1At l 46; mco1 = hertzAt l 47; source2 = mco2At l 52; mco2 = hertzAt l 53 }
-
--- a request of its groups
-abbrev pub joinedOf : Clocks → Outputs → List PllRequest → Request
-joinedOf c o plls = record {
-  hse = c .hse;
-  lse = c .lse;
-  audio = c .audio;
-  system = c .system;
-  peripheral = c .peripheral;
-  ahb = c .ahb;
-  apb1 = c .apb1;
-  apb2 = c .apb2;
-  apb3 = c .apb3;
-  bypass = o .bypass;
-  mco1source = o .source1;
-  mco1 = o .mco1;
-  mco2source = o .source2;
-  mco2 = o .mco2;
-  plls = plls;
-}
-
--- the whole request
-unfoldable pub decoded : (three : Bool) → List ℕ → Request
-decoded three l = joinedOf (clocksAt l) (outputsAt l) (partAt l 58 ∷ partAt l 74 ∷ thirdAt three l ∷ [])

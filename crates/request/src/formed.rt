@@ -2,24 +2,26 @@
 ghost use mathlib.Core.Path.{_≡_};
 ghost use Prim.Native.Nat.{_+_, _≤_};
 ghost use lib.ListN.{length};
+ghost use Rattle.rules.specs.Document01.Bytes.{sizeOf};
 ghost use Rattle.request.specs.Parts as Parts;
-ghost use Rattle.request.specs.Parts.{hertzOk, threeOk, pllOk, thirdOk, clocksOk, outputsOk, pllsOk, sizeOf};
+ghost use Rattle.request.specs.Parts.{hertzOk, threeOk, pllOk, thirdOk, clocksOk, outputsOk, pllsOk};
 use crate::numbers;
 use crate::parts;
 
-// A hertz: 0 and four zeros, or 1 and any four bytes.
+// A hertz: 0 and four zeros, or 1 and any four bytes. All is read before it is judged, so no branch waits for a byte.
 fn hertz_ok(b: &[u8], at: usize) -> bool
     requires { ⌜ at + 5 ≤ length (now b) ⌝ }
     ensures { λ r. ⌜ r ≡ hertzOk (now (b .entry)) at ⌝ }
 {
     let set = b[at];
+    let number = parts::word_at(b, at + 1);
     if set > 1 {
         return false;
     }
     if set == 1 {
         return true;
     }
-    parts::word_at(b, at + 1) == 0
+    number == 0
 }
 
 // Three hertz in a row.
@@ -34,7 +36,7 @@ fn three_ok(b: &[u8], at: usize) -> bool
 }
 
 // A PLL's part.
-fn pll_ok(b: &[u8], at: usize) -> bool
+pub fn pll_ok(b: &[u8], at: usize) -> bool
     requires { ⌜ at + 16 ≤ length (now b) ⌝ }
     ensures { λ r. ⌜ r ≡ pllOk (now (b .entry)) at ⌝ }
 {
@@ -90,7 +92,7 @@ fn plls_ok(b: &[u8], three: bool) -> bool
 
 // The whole request.
 pub fn formed(b: &[u8], three: bool) -> bool
-    requires { ⌜ length (now b) ≡ sizeOf three ⌝ }
+    requires { ⌜ (90 ≤ length (now b)) × (sizeOf three ≤ length (now b)) ⌝ }
     ensures { λ r. ⌜ r ≡ Parts.formed three (now (b .entry)) ⌝ }
 {
     let clocks = clocks_ok(b);

@@ -1,22 +1,20 @@
-// The byte form of a request, beside the chip's numbers: document 01, One call, from the top, second paragraph, and refusal 1.
+// The byte form of a request, read beside the chip's numbers: document 01, One call, from the top, second paragraph, and refusal 1.
 ghost use mathlib.Core.Path.{_≡_};
-ghost use lib.ListN.{length};
+ghost use Rattle.rules.specs.Document01.Bytes.{sizeOf};
 ghost use Rattle.rules.specs.Document01.Plan.{requestOf};
-ghost use Rattle.request.specs.Parts.{sizeOf};
-ghost use Rattle.request.specs.Request.{blankRequest, blankRead, requestRead};
-ghost use Rattle.request.specs.Writing.{isWritten, roomAfter};
+ghost use Rattle.request.specs.Request.{blankRequest, blankRead, requestRead, partOf, partRead, nothingRead};
 use types::Chip;
 use types::ChipState;
 use types::Hertz;
 use types::Mco1Source;
 use types::Mco2Source;
+use types::PllRequest;
 use types::Request;
 use types::Scale;
 
 mod formed;
 mod numbers;
 mod parts;
-mod write;
 
 // A request that was read, with the chip; where it was refused, both are blank.
 pub struct RequestRead {
@@ -102,19 +100,29 @@ pub fn read_request(bytes: &[u8], chip: Chip) -> RequestRead
     }
 }
 
-// The bytes of a request, where there is room for just them; on two PLLs nothing may stand in the third part. Else false, and nothing is stored.
-pub fn write_request(request: Request, three: bool, out: &mut [u8]) -> bool
-    ensures { λ r. ⌜ r ≡ isWritten three request (length (now (out .entry))) ⌝ }
-    ensures { λ r. ⌜ now (out .exit) ≡ roomAfter three request (now (out .entry)) ⌝ }
+// One PLL's part that was read; where it was refused, nothing is requested.
+pub struct PartRead {
+    pub read: bool,
+    pub part: PllRequest,
+}
+
+// The part that 16 bytes stand for, or refusal 1.
+pub fn read_part(bytes: &[u8]) -> PartRead
+    ensures { λ r. ⌜ r ≡ partRead (partOf (now (bytes .entry))) ⌝ }
 {
-    if out.len() != size_of(three) {
-        return false;
+    if bytes.len() != 16 {
+        return none_read();
     }
-    if !write::third_fits(three, request) {
-        return false;
+    if !formed::pll_ok(bytes, 0) {
+        return none_read();
     }
-    write::put_clocks(out, request);
-    write::put_outputs(out, request);
-    write::put_plls(out, three, request);
-    true
+    let part = parts::part_at(bytes, 0);
+    PartRead { read: true, part }
+}
+
+fn none_read() -> PartRead
+    ensures { λ r. ⌜ r ≡ nothingRead ⌝ }
+{
+    let part = parts::no_part();
+    PartRead { read: false, part }
 }

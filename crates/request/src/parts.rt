@@ -2,8 +2,8 @@
 ghost use mathlib.Core.Path.{_≡_};
 ghost use Prim.Native.Nat.{_+_, _*_, _<_, _≤_};
 ghost use lib.ListN.{length};
-ghost use Rattle.rules.specs.Document01.Bytes.{noPart};
-ghost use Rattle.request.specs.Parts.{wordAt, hertzAt, mco1At, mco2At, strategyAt, partAt, thirdAt, clocksAt, outputsAt, joinedOf, decoded, sizeOf};
+ghost use Rattle.rules.specs.Document01.Bytes.{noPart, sizeOf};
+ghost use Rattle.request.specs.Parts.{wordAt, hertzAt, mco1At, mco2At, strategyAt, partAt, thirdAt, decoded};
 use types::Hertz;
 use types::Mco1Source;
 use types::Mco2Source;
@@ -30,10 +30,11 @@ fn hertz_at(b: &[u8], at: usize) -> Hertz
     requires { ⌜ at + 5 ≤ length (now b) ⌝ }
     ensures { λ r. ⌜ r ≡ hertzAt (now (b .entry)) at ⌝ }
 {
+    let number = word_at(b, at + 1);
     if b[at] == 0 {
         return Hertz::Unset;
     }
-    Hertz::Hz(word_at(b, at + 1))
+    Hertz::Hz(number)
 }
 
 fn mco1_at(b: &[u8], at: usize) -> Mco1Source
@@ -73,7 +74,7 @@ fn strategy_at(b: &[u8], at: usize) -> Strategy
     Strategy::Fractional
 }
 
-fn part_at(b: &[u8], at: usize) -> PllRequest
+pub fn part_at(b: &[u8], at: usize) -> PllRequest
     requires { ⌜ at + 16 ≤ length (now b) ⌝ }
     ensures { λ r. ⌜ r ≡ partAt (now (b .entry)) at ⌝ }
 {
@@ -108,23 +109,12 @@ fn third_at(b: &[u8], three: bool) -> PllRequest
     no_part()
 }
 
-pub struct Clocks {
-    pub hse: Hertz,
-    pub lse: Hertz,
-    pub audio: Hertz,
-    pub system: Hertz,
-    pub peripheral: Hertz,
-    pub ahb: Hertz,
-    pub apb1: Hertz,
-    pub apb2: Hertz,
-    pub apb3: Hertz,
-}
-
-fn clocks_at(b: &[u8]) -> Clocks
-    requires { ⌜ 90 ≤ length (now b) ⌝ }
-    ensures { λ r. ⌜ r ≡ clocksAt (now (b .entry)) ⌝ }
+// The whole request.
+pub fn decode(b: &[u8], three: bool) -> Request
+    requires { ⌜ (90 ≤ length (now b)) × (sizeOf three ≤ length (now b)) ⌝ }
+    ensures { λ r. ⌜ r ≡ decoded three (now (b .entry)) ⌝ }
 {
-    Clocks {
+    Request {
         hse: hertz_at(b, 0),
         lse: hertz_at(b, 5),
         audio: hertz_at(b, 10),
@@ -134,76 +124,11 @@ fn clocks_at(b: &[u8]) -> Clocks
         apb1: hertz_at(b, 30),
         apb2: hertz_at(b, 35),
         apb3: hertz_at(b, 40),
-    }
-}
-
-// The bypass flag, and MCO1 and MCO2 with their sources.
-pub struct Outputs {
-    pub bypass: bool,
-    pub source1: Mco1Source,
-    pub mco1: Hertz,
-    pub source2: Mco2Source,
-    pub mco2: Hertz,
-}
-
-fn outputs_at(b: &[u8]) -> Outputs
-    requires { ⌜ 90 ≤ length (now b) ⌝ }
-    ensures { λ r. ⌜ r ≡ outputsAt (now (b .entry)) ⌝ }
-{
-    Outputs {
         bypass: b[45] == 1,
-        source1: mco1_at(b, 46),
+        mco1source: mco1_at(b, 46),
         mco1: hertz_at(b, 47),
-        source2: mco2_at(b, 52),
+        mco2source: mco2_at(b, 52),
         mco2: hertz_at(b, 53),
+        plls: [part_at(b, 58), part_at(b, 74), third_at(b, three)],
     }
-}
-
-// A request of its groups.
-fn joined(c: Clocks, o: Outputs, plls: [PllRequest; 3]) -> Request
-    ensures { λ r. ⌜ r ≡ joinedOf c o plls ⌝ }
-{
-    let hse = c.hse;
-    let lse = c.lse;
-    let audio = c.audio;
-    let system = c.system;
-    let peripheral = c.peripheral;
-    let ahb = c.ahb;
-    let apb1 = c.apb1;
-    let apb2 = c.apb2;
-    let apb3 = c.apb3;
-    let mco1source = o.source1;
-    let mco1 = o.mco1;
-    let mco2source = o.source2;
-    let mco2 = o.mco2;
-    Request {
-        hse,
-        lse,
-        audio,
-        system,
-        peripheral,
-        ahb,
-        apb1,
-        apb2,
-        apb3,
-        bypass: o.bypass,
-        mco1source,
-        mco1,
-        mco2source,
-        mco2,
-        plls,
-    }
-}
-
-// The whole request.
-pub fn decode(b: &[u8], three: bool) -> Request
-    requires { ⌜ length (now b) ≡ sizeOf three ⌝ }
-    ensures { λ r. ⌜ r ≡ decoded three (now (b .entry)) ⌝ }
-{
-    let c = clocks_at(b);
-    let o = outputs_at(b);
-    let pll1 = part_at(b, 58);
-    let pll2 = part_at(b, 74);
-    let pll3 = third_at(b, three);
-    joined(c, o, [pll1, pll2, pll3])
 }

@@ -27,7 +27,7 @@ fn chip(odd: u32) -> Chip {
 pub fn setting(name: &[u8], odd: u32, q: Request) {
     say(name);
     let mut bytes: [u8; 106] = [0; 106];
-    if request::write_request(q, true, &mut bytes) {
+    if request_bytes::write_request(q, true, &mut bytes) {
         answer(rcc::plan(&bytes, chip(odd)));
     }
 }

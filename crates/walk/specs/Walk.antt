@@ -43,3 +43,13 @@ steppedBy (Stopped n) w a b = w
 -- a step takes the values read
 unfoldable pub steppedWalk : Walk → (a b : ℕ) → Walk
 steppedWalk w a b = steppedBy (shownOf (standOf w)) w a b
+
+-- 1 where the values read pass an entry, 2 where it is a check that is not met, else 0
+abbrev pub markOf : Entry → (a b : ℕ) → ℕ
+markOf e a b = cond (passes e a b) 1 (cond (isCheck e) 2 0)
+
+-- the same of what is shown: 0 where it is no entry
+abbrev pub markShown : Shown → (a b : ℕ) → ℕ
+markShown (Next e) a b = markOf e a b
+markShown Finished a b = 0
+markShown (Stopped n) a b = 0

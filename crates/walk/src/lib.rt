@@ -1,11 +1,9 @@
 // The register walk: a plan's list one entry at a time, moved on in place by the values read. rcc.rs (freeze, its polling).
 ghost use mathlib.Core.Path.{_≡_};
-ghost use mathlib.Core.Bool.{_&&_};
-ghost use Rattle.rules.specs.Document01.Walk.{shownOf, passes, isCheck, steppedOf, freshOf};
+ghost use Rattle.rules.specs.Document01.Walk.{shownOf, steppedOf, freshOf};
 ghost use Rattle.rules.specs.Document01.Words.{shownCount, ran};
 ghost use lib.ListN.{length};
-ghost use Rattle.types.specs.declared.Shown.the-variants.{Next};
-ghost use Rattle.walk.specs.Walk.{freshWalk, standOf, steppedWalk, passedWalk};
+ghost use Rattle.walk.specs.Walk.{freshWalk, standOf, steppedWalk, markOf, markShown};
 use entries::EntryAt;
 use types::Answer;
 use types::Entry;
@@ -42,71 +40,44 @@ pub fn shows(w: Walk) -> Shown
     let planned = w.planned;
     let answer = planned.answer;
     match answer {
-        Answer::Refused(n) => Shown::Stopped(n),
+        Answer::Refused(n) => {
+            return Shown::Stopped(n);
+        }
         Answer::Accepted => match entries::entry_at(planned, w.at) {
-            EntryAt::Is(e) => Shown::Next(e),
-            EntryAt::Past => Shown::Finished,
+            EntryAt::Is(e) => {
+                return Shown::Next(e);
+            }
+            EntryAt::Past => {
+                return Shown::Finished;
+            }
         },
     }
 }
 
-// Whether the values read pass an entry.
-fn passes_by(e: Entry, a: u32, b: u32) -> bool
-    ensures { λ r. ⌜ r ≡ passes e a b ⌝ }
+// What the values read make of an entry: 1 where they pass it, 2 where it is a check that is not met, else 0.
+fn mark(e: Entry, a: u32, b: u32) -> u32
+    ensures { λ r. ⌜ r ≡ markOf e a b ⌝ }
 {
     match e {
-        Entry::Set(_, _) => true,
-        Entry::Set2(_, _, _, _) => true,
-        Entry::Set3(_, _, _, _, _, _) => true,
-        Entry::Set4(_, _, _, _, _, _, _, _) => true,
-        Entry::Wait(_, v) => a == v,
-        Entry::Wait2(_, v, _, w) => both(a == v, b == w),
-        Entry::Check(_, v) => a == v,
-        Entry::Read(_) => true,
+        Entry::Set(_, _) => 1,
+        Entry::Set2(_, _, _, _) => 1,
+        Entry::Set3(_, _, _, _, _, _) => 1,
+        Entry::Set4(_, _, _, _, _, _, _, _) => 1,
+        Entry::Wait(_, v) => (a == v) as u32,
+        Entry::Wait2(_, v, _, w) => ((a == v) & (b == w)) as u32,
+        Entry::Check(_, v) => 2 - (a == v) as u32,
+        Entry::Read(_) => 1,
     }
 }
 
-fn both(x: bool, y: bool) -> bool
-    ensures { λ r. ⌜ r ≡ (x && y) ⌝ }
+// The same of what is shown: 0 where it is no entry.
+fn mark_shown(s: Shown, a: u32, b: u32) -> u32
+    ensures { λ r. ⌜ r ≡ markShown s a b ⌝ }
 {
-    if x {
-        return y;
-    }
-    false
-}
-
-fn is_check(e: Entry) -> bool
-    ensures { λ r. ⌜ r ≡ isCheck e ⌝ }
-{
-    match e {
-        Entry::Set(_, _) => false,
-        Entry::Set2(_, _, _, _) => false,
-        Entry::Set3(_, _, _, _, _, _) => false,
-        Entry::Set4(_, _, _, _, _, _, _, _) => false,
-        Entry::Wait(_, _) => false,
-        Entry::Wait2(_, _, _, _) => false,
-        Entry::Check(_, _) => true,
-        Entry::Read(_) => false,
-    }
-}
-
-// The walk after the values read at entry e, which it shows.
-fn passed(w: Walk, e: Entry, a: u32, b: u32) -> Walk
-    requires { ⌜ shownOf (standOf w) ≡ Next e ⌝ }
-    ensures { λ r. ⌜ r ≡ passedWalk e w a b ⌝ }
-{
-    let planned = w.planned;
-    if passes_by(e, a, b) {
-        return Walk {
-            planned,
-            at: w.at + 1,
-            down: w.down,
-        };
-    }
-    Walk {
-        planned,
-        at: w.at,
-        down: is_check(e),
+    match s {
+        Shown::Next(e) => mark(e, a, b),
+        Shown::Finished => 0,
+        Shown::Stopped(_) => 0,
     }
 }
 
@@ -115,11 +86,16 @@ pub fn stepped(w: Walk, a: u32, b: u32) -> Walk
     ensures walk { λ r. ⌜ r ≡ steppedWalk w a b ⌝ }
     ensures rules { λ r. ⌜ standOf r ≡ steppedOf (standOf w) a b ⌝ }
 {
-    match shows(w) {
-        Shown::Next(e) => passed(w, e, a, b),
-        Shown::Finished => w,
-        Shown::Stopped(_) => w,
+    let m = mark_shown(shows(w), a, b);
+    let mut n = w;
+    if m == 1 {
+        n.at = w.at + 1;
+        return n;
     }
+    if m == 2 {
+        n.down = true;
+    }
+    n
 }
 
 // The same in place: the record is moved on by the values read, and what it now shows is the answer.

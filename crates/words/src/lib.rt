@@ -1,10 +1,8 @@
 // Entries and what a walk shows as nine words each, and storing them: docs/CODES.md, Entries as words.
 ghost use mathlib.Core.Path.{_≡_};
-ghost use Prim.Native.Nat.{_+_, _<_, _^_};
 ghost use lib.ListN.{getD};
 ghost use mathlib.Core.List.{[], _∷_};
-ghost use Rattle.rules.specs.Document01.Words.{fieldWord, entryWords, shownWords, threeAt, storedAt, shownCount};
-use fields::put;
+ghost use Rattle.rules.specs.Document01.Words.{fieldWord, entryWords, shownWords, storedAt, shownCount};
 use types::Entry;
 use types::Shown;
 
@@ -68,16 +66,6 @@ pub fn shown_words(s: Shown) -> [u32; 9]
     }
 }
 
-// Three words from a place on.
-fn three(out: &mut [u32], at: usize, x: u32, y: u32, z: u32)
-    requires { ⌜ at + 2 < 2 ^ 64 ⌝ }
-    ensures { λ r. ⌜ now (out .exit) ≡ threeAt (now (out .entry)) at x y z ⌝ }
-{
-    put(at, x, out);
-    put(at + 1, y, out);
-    put(at + 2, z, out)
-}
-
 // Nine words from a place on, where they fit.
 pub fn store(out: &mut [u32], at: usize, words: [u32; 9])
     ensures { λ r. ⌜ now (out .exit) ≡ storedAt (now (out .entry)) at words ⌝ }
@@ -89,9 +77,9 @@ pub fn store(out: &mut [u32], at: usize, words: [u32; 9])
     if n - 9 < at {
         return;
     }
-    three(out, at, words[0], words[1], words[2]);
-    three(out, at + 3, words[3], words[4], words[5]);
-    three(out, at + 6, words[6], words[7], words[8])
+    for i in 0..9 {
+        out[at + i] = words[i];
+    }
 }
 
 // How many things shown are stored: two values are read for each step, and nine words hold one.

@@ -1,12 +1,13 @@
 -- `entries::after_clocks` meets its contract: inside a part, or past it.
+use borrow.Author.Needs.{needs}
 use mathlib.Core.Path.{_∙_}
 use Prim.Native.Nat.{_-_}
-use borrow.Author.Needs.{needs}
+use native.Mathlib.Omega.{arith}
 use Rattle.rules.specs.Document01.Entries.{hseEntries, sourceEntries}
 use Rattle.fields.specs.Segments.{starts}
 use Rattle.entries.proofs.Counted.{hse-length, source-length, starts-length}
 use Rattle.fields.proofs.Whole.{busesIn, fromStarts, fromSources}
-use Rattle.entries.proofs.Placed.{first, later}
+use Rattle.entries.proofs.Placed.{first-at, later-at, with-hse, source-here}
 use Rattle.entries.proofs.after_clocks.Statement.{statement}
 use Rattle.entries.proofs.after_clocks.Tie as tie
 
@@ -21,31 +22,34 @@ returns c =
     let p = c .before .before .before .before .args .plan in
     let k = c .before .before .before .before .args .k in
     let a = c .before .before .hse in
-    first (hseEntries (p .hse) (p .bypass)) (fromSources p) (a .result) k (a .ensures .0 ∙ hse-length (p .hse) (p .bypass)) (c .before .if1 .taken)
-    (c .hse-at .ensures)
+    first-at (hseEntries (p .hse) (p .bypass)) (fromSources p) (a .result) k (a .ensures .0 ∙ hse-length (p .hse) (p .bypass)) (c .before .if1 .taken)
+    (with-hse (p .hse) (p .bypass) k (omega (arith, a .ensures .0, c .before .if1 .taken)) (c .hse-at .ensures))
 
 sources-requires : tie.Need-sources-requires
 sources-requires c κs = search needs
 
-source-at-requires : tie.Need-source-at-requires
-source-at-requires c κs = search needs
+mul-t12 : tie.Need-mul-t12
+mul-t12 c = search needs
+
+add-t13 : tie.Need-add-t13
+add-t13 c = search needs
 
 returns-2 : tie.Need-returns-2
 returns-2 c =
-    let p = c .before .before .before .before .before .before .args .plan in
-    let k = c .before .before .before .before .before .before .args .k in
-    let a = c .before .before .before .before .hse in
+    let p = c .before .before .before .before .before .args .plan in
+    let k = c .before .before .before .before .before .args .k in
+    let a = c .before .before .before .hse in
     let l = k - a .result in
-    let b = c .before .before .sources in
-    later (hseEntries (p .hse) (p .bypass)) (fromSources p) (a .result) k (a .ensures .0 ∙ hse-length (p .hse) (p .bypass)) (c .before .before .before .if1 .left)
-    (first (sourceEntries (p .three) (p .src)) (fromStarts p) (b .result) l (b .ensures .0 ∙ source-length (p .three) (p .src)) (c .before .if2 .taken)
-    (c .source-at .ensures))
+    let b = c .before .sources in
+    later-at (hseEntries (p .hse) (p .bypass)) (fromSources p) (a .result) k (a .ensures .0 ∙ hse-length (p .hse) (p .bypass)) (c .before .before .if1 .left)
+    (first-at (sourceEntries (p .three) (p .src)) (fromStarts p) (b .result) l (b .ensures .0 ∙ source-length (p .three) (p .src)) (c .if2 .taken)
+    (source-here (p .three) (p .src) l (omega (arith, b .ensures .0, c .if2 .taken))))
 
 starts-requires : tie.Need-starts-requires
 starts-requires c κs = search needs
 
 starts-at-requires : tie.Need-starts-at-requires
-starts-at-requires c κs = search needs
+starts-at-requires c κs = omega (arith, c .before .starts .ensures .0, c .if3 .taken)
 
 returns-3 : tie.Need-returns-3
 returns-3 c =
@@ -56,9 +60,9 @@ returns-3 c =
     let b = c .before .before .before .before .sources in
     let m = l - b .result in
     let d = c .before .before .starts in
-    later (hseEntries (p .hse) (p .bypass)) (fromSources p) (a .result) k (a .ensures .0 ∙ hse-length (p .hse) (p .bypass)) (c .before .before .before .before .before .if1 .left)
-    (later (sourceEntries (p .three) (p .src)) (fromStarts p) (b .result) l (b .ensures .0 ∙ source-length (p .three) (p .src)) (c .before .before .before .if2 .left)
-    (first (starts (p .plls)) (busesIn p) (d .result) m (d .ensures .0 ∙ starts-length (p .plls)) (c .before .if3 .taken)
+    later-at (hseEntries (p .hse) (p .bypass)) (fromSources p) (a .result) k (a .ensures .0 ∙ hse-length (p .hse) (p .bypass)) (c .before .before .before .before .before .if1 .left)
+    (later-at (sourceEntries (p .three) (p .src)) (fromStarts p) (b .result) l (b .ensures .0 ∙ source-length (p .three) (p .src)) (c .before .before .before .if2 .left)
+    (first-at (starts (p .plls)) (busesIn p) (d .result) m (d .ensures .0 ∙ starts-length (p .plls)) (c .before .if3 .taken)
     (c .starts-at .ensures)))
 
 bus-at-requires : tie.Need-bus-at-requires
@@ -73,9 +77,9 @@ returns-4 c =
     let b = c .before .before .before .before .sources in
     let m = l - b .result in
     let d = c .before .before .starts in
-    later (hseEntries (p .hse) (p .bypass)) (fromSources p) (a .result) k (a .ensures .0 ∙ hse-length (p .hse) (p .bypass)) (c .before .before .before .before .before .if1 .left)
-    (later (sourceEntries (p .three) (p .src)) (fromStarts p) (b .result) l (b .ensures .0 ∙ source-length (p .three) (p .src)) (c .before .before .before .if2 .left)
-    (later (starts (p .plls)) (busesIn p) (d .result) m (d .ensures .0 ∙ starts-length (p .plls)) (c .before .if3 .left)
+    later-at (hseEntries (p .hse) (p .bypass)) (fromSources p) (a .result) k (a .ensures .0 ∙ hse-length (p .hse) (p .bypass)) (c .before .before .before .before .before .if1 .left)
+    (later-at (sourceEntries (p .three) (p .src)) (fromStarts p) (b .result) l (b .ensures .0 ∙ source-length (p .three) (p .src)) (c .before .before .before .if2 .left)
+    (later-at (starts (p .plls)) (busesIn p) (d .result) m (d .ensures .0 ∙ starts-length (p .plls)) (c .before .if3 .left)
     (c .bus-at .ensures)))
 
 pub after-clocks-spec : {M : Type 1} → statement M
@@ -86,7 +90,8 @@ after-clocks-spec =
     hse-at-requires
     returns
     sources-requires
-    source-at-requires
+    mul-t12
+    add-t13
     returns-2
     starts-requires
     starts-at-requires

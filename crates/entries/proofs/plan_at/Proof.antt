@@ -6,7 +6,7 @@ use borrow.Author.Needs.{needs}
 use Rattle.fields.specs.Segments.{setups, afterClocks}
 use Rattle.entries.proofs.Counted.{setups-length}
 use Rattle.fields.proofs.Whole.{clocksIn, parts}
-use Rattle.entries.proofs.Placed.{first, later}
+use Rattle.entries.proofs.Placed.{first-at, later-at}
 use Rattle.entries.proofs.plan_at.Statement.{statement}
 use Rattle.entries.proofs.plan_at.Tie as tie
 
@@ -21,7 +21,7 @@ returns c =
     let p = c .before .before .before .before .args .plan in
     let k = c .before .before .before .before .args .k in
     let a = c .before .before .setups in
-    rw (parts p) (first (setups (p .plls)) (clocksIn p ++ afterClocks p) (a .result) k (a .ensures .0 ∙ setups-length (p .plls)) (c .before .if1 .taken)
+    rw (parts p) (first-at (setups (p .plls)) (clocksIn p ++ afterClocks p) (a .result) k (a .ensures .0 ∙ setups-length (p .plls)) (c .before .if1 .taken)
     (c .setups-at .ensures))
 
 clock-at-requires : tie.Need-clock-at-requires
@@ -33,8 +33,8 @@ returns-2 c =
     let k = c .before .before .before .before .before .args .k in
     let a = c .before .before .before .setups in
     let l = k - a .result in
-    rw (parts p) (later (setups (p .plls)) (clocksIn p ++ afterClocks p) (a .result) k (a .ensures .0 ∙ setups-length (p .plls)) (c .before .before .if1 .left)
-    (first (clocksIn p) (afterClocks p) 9 l refl (c .before .if2 .taken)
+    rw (parts p) (later-at (setups (p .plls)) (clocksIn p ++ afterClocks p) (a .result) k (a .ensures .0 ∙ setups-length (p .plls)) (c .before .before .if1 .left)
+    (first-at (clocksIn p) (afterClocks p) 9 l refl (c .before .if2 .taken)
     (c .clock-at .ensures)))
 
 after-clocks-requires : tie.Need-after-clocks-requires
@@ -46,8 +46,8 @@ returns-3 c =
     let k = c .before .before .before .before .before .args .k in
     let a = c .before .before .before .setups in
     let l = k - a .result in
-    rw (parts p) (later (setups (p .plls)) (clocksIn p ++ afterClocks p) (a .result) k (a .ensures .0 ∙ setups-length (p .plls)) (c .before .before .if1 .left)
-    (later (clocksIn p) (afterClocks p) 9 l refl (c .before .if2 .left)
+    rw (parts p) (later-at (setups (p .plls)) (clocksIn p ++ afterClocks p) (a .result) k (a .ensures .0 ∙ setups-length (p .plls)) (c .before .before .if1 .left)
+    (later-at (clocksIn p) (afterClocks p) 9 l refl (c .before .if2 .left)
     (c .after-clocks .ensures)))
 
 pub plan-at-spec : {M : Type 1} → statement M

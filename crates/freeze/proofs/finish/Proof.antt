@@ -34,16 +34,4 @@ returns-3 : tie.Need-returns-3
 returns-3 c = rw (c .before .before .before .before .before .buses2 .given .1, c .before .before .mcos2 .given .1) (c .accepted .ensures)
 
 pub finish-spec : {M : Type 1} → statement M
-finish-spec =
-    tie.close
-    (tie.spec
-    enum-known-buses
-    refused-requires
-    enum-known-buses-2
-    enum-known-mcos
-    refused-requires-2
-    enum-known-mcos-2
-    accepted-requires
-    returns
-    returns-2
-    returns-3)
+finish-spec = tie.close (tie.spec enum-known-buses refused-requires returns enum-known-buses-2 enum-known-mcos refused-requires-2 returns-2 enum-known-mcos-2 accepted-requires returns-3)

@@ -1,5 +1,6 @@
 use Rattle.pll.proofs.Divided.{starts, searched, outside, no-m, settles, rest}
 use Rattle.pll.specs.Settle.{settledFor}
+use Rattle.pll.specs.Spans.{requestOf}
 use Rattle.pll.specs.Search.{numberOf}
 use Rattle.pll.specs.Answer.{pllAnswer}
 use Rattle.pll.specs.declared.vco.VcoRange.{VcoRange}
@@ -44,39 +45,39 @@ from-start c =
     omega arith
 
 target-of-requires : tie.Need-target-of-requires
-target-of-requires c κs = starts _ _ _ _ _ (c .before .pre)
+target-of-requires c κs = starts _ _ _ _ _ _ _ _ (c .before .pre)
 
 returns : tie.Need-returns
 returns c = let s = ap (λ (x : VcoRange). x .start) (c .before .before .before .range-of .ensures) in
     let t = target-is (c .before .before) in
     let l = c .if1 .taken in
-    outside _ _ _ _ _ (c .before .before .before .before .pre) (omega arith)
+    outside _ _ _ _ _ _ _ _ (c .before .before .before .before .pre) (omega arith)
 
 search-m-requires : tie.Need-search-m-requires
 search-m-requires c κs = let r = c .before .before .before .range-of .ensures in
     let low = ap (λ (x : VcoRange). x .low) r in
     let high = ap (λ (x : VcoRange). x .high) r in
     let t = target-is (c .before .before) in
-    let k = searched _ _ _ _ _ (c .before .before .before .before .pre) in
+    let k = searched _ _ _ _ _ _ _ _ (c .before .before .before .before .pre) in
     (k .0, omega arith, omega arith, omega arith)
 
 returns-2 : tie.Need-returns-2
-returns-2 c = no-m _ _ _ _ _ (c .before .before .before .before .before .before .pre) (from-start (c .before .before)) (sym (m-is (c .before)) ∙ c .if2 .taken)
+returns-2 c = no-m _ _ _ _ _ _ _ _ (c .before .before .before .before .before .before .pre) (from-start (c .before .before)) (sym (m-is (c .before)) ∙ c .if2 .taken)
 
-div-reference : tie.Need-div-reference
-div-reference c = search needs
+div-settle : tie.Need-div-settle
+div-settle c = search needs
 
 settle-requires : tie.Need-settle-requires
-settle-requires c κs = rw (target-is (c .before .before .before .before)) (settles _ _ _ _ _ (c .before .before .before .before .before .before .pre) (from-start (c .before .before)) _ (m-is (c .before)) (c .if2 .left))
+settle-requires c κs = rw (target-is (c .before .before .before .before)) (settles _ _ _ _ _ _ _ _ (c .before .before .before .before .before .before .pre) (from-start (c .before .before)) _ (m-is (c .before)) (c .if2 .left))
 
 returns-3 : tie.Need-returns-3
 returns-3 c = let e = c .before in
     let s = e .before .before .before .before .before .before in
     let v = ap (λ (x : VcoRange). x .vcosel) (e .before .before .before .before .before .range-of .ensures) in
     c .settle .ensures
-    ∙ ap (λ (x : ℕ). pllAnswer (running (settledFor (s .args .odd) (s .args .request) x (e .before .before .before .before .target-of .result) (e .before .search-m .result) (s .args .source / e .before .search-m .result)))) v
-    ∙ ap (λ (x : ℕ). pllAnswer (running (settledFor (s .args .odd) (s .args .request) (rangeOf (s .args .most) .vcosel) x (e .before .search-m .result) (s .args .source / e .before .search-m .result)))) (target-is (e .before .before .before .before))
-    ∙ rest _ _ _ _ _ (s .pre) (from-start (e .before .before)) _ (m-is (e .before)) (e .if2 .left)
+    ∙ ap (λ (x : ℕ). pllAnswer (running (settledFor (s .args .odd) (requestOf (s .args .fractional) (s .args .p) (s .args .q) (s .args .r)) x (e .before .before .before .before .target-of .result) (e .before .search-m .result) (s .args .source / e .before .search-m .result)))) v
+    ∙ ap (λ (x : ℕ). pllAnswer (running (settledFor (s .args .odd) (requestOf (s .args .fractional) (s .args .p) (s .args .q) (s .args .r)) (rangeOf (s .args .most) .vcosel) x (e .before .search-m .result) (s .args .source / e .before .search-m .result)))) (target-is (e .before .before .before .before))
+    ∙ rest _ _ _ _ _ _ _ _ (s .pre) (from-start (e .before .before)) _ (m-is (e .before)) (e .if2 .left)
 
 pub divide-spec : {M : Type 1} → statement M
 divide-spec =
@@ -87,6 +88,6 @@ divide-spec =
     returns
     search-m-requires
     returns-2
-    div-reference
+    div-settle
     settle-requires
     returns-3)

@@ -7,7 +7,7 @@ blank-request-requires : tie.Need-blank-request-requires
 blank-request-requires c κs = search needs
 
 returns : tie.Need-returns
-returns c = cc
+returns c = rw (c .blank-request .ensures)
 
 pub blank-spec : {M : Type 1} → statement M
 blank-spec = tie.close (tie.spec blank-request-requires returns)

@@ -7,7 +7,7 @@ no-part-requires : tie.Need-no-part-requires
 no-part-requires c κs = search needs
 
 returns : tie.Need-returns
-returns c = cc
+returns c = rw (c .no-part .ensures)
 
 pub blank-request-spec : {M : Type 1} → statement M
 blank-request-spec = tie.close (tie.spec no-part-requires returns)

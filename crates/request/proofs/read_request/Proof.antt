@@ -5,8 +5,9 @@ use native.Mathlib.Omega.{arith}
 use borrow.Author.Tests.{not-true, not-false}
 use borrow.Author.Needs.{needs}
 use Rattle.types.specs.declared.ChipState.{ChipState}
+use Rattle.rules.specs.Document01.Bytes.{sizeOf}
+use Rattle.rules.proofs.Document01.BytesWhole.{at-least}
 use Rattle.request.specs.Chips.{chipOk, stateOf}
-use Rattle.request.specs.Parts.{sizeOf}
 use Rattle.request.proofs.Reading.{all-bytes, bad-chip, bad-size, bad-form, taken}
 use Rattle.request.proofs.read_request.Statement.{statement}
 use Rattle.request.proofs.read_request.Tie as tie
@@ -48,7 +49,7 @@ returns-2 c =
     c .blank2 .ensures ∙ sym (bad-size _ _ (good k) bytes (λ e. c .before .if2 .taken (e ∙ sym (sized k))))
 
 formed-requires : tie.Need-formed-requires
-formed-requires c κs = search needs
+formed-requires c κs = let e = c .if2 .left ∙ c .before .size-of .ensures in (omega (arith, e, at-least (c .before .before .state-of .result .three)), omega (arith, e))
 
 blank-requires-3 : tie.Need-blank-requires-3
 blank-requires-3 c κs = search needs
@@ -61,7 +62,7 @@ returns-3 c =
     c .blank3 .ensures ∙ sym (bad-form _ _ (good k) (e .if2 .left ∙ sized k) bad)
 
 decode-requires : tie.Need-decode-requires
-decode-requires c κs = search needs
+decode-requires c κs = let k = c .before .before in let e = k .if2 .left ∙ k .before .size-of .ensures in (omega (arith, e, at-least (k .before .before .state-of .result .three)), omega (arith, e))
 
 returns-4 : tie.Need-returns-4
 returns-4 c =

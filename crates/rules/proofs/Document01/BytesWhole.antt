@@ -1,8 +1,8 @@
 -- A request's byte form, whole: what can be written is read again, nothing else is read, and its length (document 01, One call, from the top).
 use mathlib.Core.Path.{_≡_, refl, sym, ap, subst, _∙_}
-use mathlib.Core.Bool.{Bool, true, false, cond}
+use mathlib.Core.Bool.{Bool, true, false}
 use mathlib.Core.List.{List, [], _∷_, append-nil}
-use Prim.Native.Nat.{ℕ}
+use Prim.Native.Nat.{ℕ, _≤_}
 use native.Mathlib.Omega.{arith}
 use lib.ListN.{getD, length, length-append}
 use Rattle.types.specs.declared.Hertz.{Hertz}
@@ -15,7 +15,7 @@ use Rattle.rules.specs.Document01.Result as Result
 use Rattle.rules.specs.Document01.Result.{Result, ok}
 use Rattle.rules.specs.Document01.Request.{pllAt}
 use Rattle.rules.specs.Document01.Chip.{chipOf}
-use Rattle.rules.specs.Document01.Bytes.{Read, end, requestPart, hertzBytes, pllBytes, thirdBytes, requestBytes, AllBytes, Writable}
+use Rattle.rules.specs.Document01.Bytes.{Read, end, requestPart, hertzBytes, pllBytes, thirdBytes, requestBytes, sizeOf, AllBytes, Writable}
 use Rattle.rules.specs.Document01.Plan.{Asked, requestOf}
 use Rattle.rules.proofs.Document01.Results.{ok-same, not-ok}
 use Rattle.rules.proofs.Document01.Bytes.{with-ok, give, take, flag-inverse, hertz-inverse, mco1-inverse, mco2-inverse, pll-inverse, third-inverse}
@@ -128,17 +128,22 @@ accepted-written three bytes x h e =
     })
 
 -- ---- the length
-hertz-length : (a : Hertz) → length (hertzBytes a) ≡ 5
+pub hertz-length : (a : Hertz) → length (hertzBytes a) ≡ 5
 hertz-length Unset = refl
 hertz-length (Hz h) = refl
 
-pll-length : (a : PllRequest) → length (pllBytes a) ≡ 16
+pub pll-length : (a : PllRequest) → length (pllBytes a) ≡ 16
 pll-length a = simp (length-append, hertz-length)
 
-pub written-length : (three : Bool) (q : Request) → length (requestBytes three q) ≡ cond three 106 90
+pub written-length : (three : Bool) (q : Request) → length (requestBytes three q) ≡ sizeOf three
 unfolding requestBytes
 written-length true q = simp (length-append, hertz-length)
 written-length false q = simp (length-append, hertz-length)
+
+-- the first two PLLs' parts are in every request
+pub at-least : (three : Bool) → 90 ≤ sizeOf three
+at-least true = omega arith
+at-least false = omega arith
 
 -- ---- on the bytes and the chip's numbers
 pub reads-back : (q : Request) (chip : Chip) (c : ChipState) → chipOf chip ≡ ok c → Writable (c .three) q → requestOf (requestBytes (c .three) q) chip ≡ ok (record { request = q; chip = c })
@@ -162,7 +167,7 @@ asked-by bytes chip a h e =
 pub bytes-unique : (bs cs : List ℕ) (chip : Chip) (a : Asked) → AllBytes bs → AllBytes cs → requestOf bs chip ≡ ok a → requestOf cs chip ≡ ok a → bs ≡ cs
 bytes-unique bs cs chip a hb hc eb ec = asked-by bs chip a hb eb .written ∙ sym (asked-by cs chip a hc ec .written)
 
-pub accepted-length : (bs : List ℕ) (chip : Chip) (a : Asked) → AllBytes bs → requestOf bs chip ≡ ok a → length bs ≡ cond (a .chip .three) 106 90
+pub accepted-length : (bs : List ℕ) (chip : Chip) (a : Asked) → AllBytes bs → requestOf bs chip ≡ ok a → length bs ≡ sizeOf (a .chip .three)
 accepted-length bs chip a h e = rw (asked-by bs chip a h e .written) (written-length (a .chip .three) (a .request))
 
 pub accepted-writable : (bs : List ℕ) (chip : Chip) (a : Asked) → AllBytes bs → requestOf bs chip ≡ ok a → Writable (a .chip .three) (a .request)

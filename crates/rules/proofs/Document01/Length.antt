@@ -14,6 +14,7 @@ use Rattle.types.specs.declared.Pll.{Pll}
 use Rattle.types.specs.declared.Pll.the-variants.{Idle, Runs}
 use Rattle.types.specs.declared.Plan.{Plan}
 use Rattle.types.specs.declared.Refusal.{Refusal}
+use Rattle.types.specs.declared.Answer.{Answer}
 use Rattle.types.specs.declared.Answer.the-variants.{Accepted, Refused}
 use Rattle.types.specs.declared.Planned.{Planned}
 use Rattle.rules.specs.Document01.Fields
@@ -87,3 +88,12 @@ accepted-length x e = rw e (plan-length (x .plan))
 pub refused-length : (x : Planned) (n : Refusal) → x .answer ≡ Refused n → length (entriesOf x) ≡ 0
 unfolding entriesOf
 refused-length x n e = rw e
+
+-- so no list is longer
+pub at-most : (x : Planned) → length (entriesOf x) ≤ 69
+unfolding entriesOf
+at-most x = go (x .answer) refl
+  where
+    go : (a : Answer) → x .answer ≡ a → length (entriesOf x) ≤ 69
+    go Accepted e = accepted-length x e .1
+    go (Refused n) e = let z = refused-length x n e in omega arith

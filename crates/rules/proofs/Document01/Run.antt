@@ -18,7 +18,7 @@ count-bounds reads room = go (ltb (room / 9) (reads / 2 + 1)) refl
     go true e = let l = ltb-true (room / 9) (reads / 2 + 1) e in (omega arith, omega arith)
     go false e = let l = ltb-false (room / 9) (reads / 2 + 1) e in (omega arith, omega arith)
 
-stored-length : (b : List ℕ) (at : ℕ) (w : List ℕ) → length (storedAt b at w) ≡ length b
+pub stored-length : (b : List ℕ) (at : ℕ) (w : List ℕ) → length (storedAt b at w) ≡ length b
 unfolding storedAt
 stored-length b at w = go (leb (at + 9) (length b))
   where

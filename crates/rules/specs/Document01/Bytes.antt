@@ -224,6 +224,10 @@ requestBytes three q =
     ++ (pllBytes (pllAt q 1)
     ++ thirdBytes three (pllAt q 2)))))))))))))))
 
+-- their number: 90 on two PLLs, 106 on three
+abbrev pub sizeOf : (three : Bool) → ℕ
+sizeOf three = cond three 106 90
+
 -- numbers that are bytes
 abbrev pub AllBytes : List ℕ → Type 0
 AllBytes [] = Unit {0}

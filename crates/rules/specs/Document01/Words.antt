@@ -89,3 +89,13 @@ reportWords p =
     ∷ hertzWords (p .hse) (hertzWords (p .lse) (hertzWords (p .audio) (hertzWords (p .mco1) (hertzWords (p .mco2)
     (pllWords (pllIn p 0) (pllWords (pllIn p 1) (pllWords (pllIn p 2)
     (p .ppre1 ∷ p .ppre2 ∷ p .ppre3 ∷ []))))))))
+
+-- ---- a list of entries: 622 words, the count and then nine words for each of at most 69 entries
+-- each entry's nine words, one after the other from a place on
+abbrev pub listedFrom : List ℕ → (at : ℕ) → List Entry → List ℕ
+listedFrom b at [] = b
+listedFrom b at (e ∷ es) = listedFrom (storedAt b at (entryWords e)) (at + 9) es
+
+-- the count, then the entries; the rest is kept
+abbrev pub listed : List Entry → List ℕ → List ℕ
+listed es b = listedFrom (set b 0 (length es)) 1 es

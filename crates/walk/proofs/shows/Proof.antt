@@ -12,6 +12,9 @@ returns c = by-check (c .before .args .w) (c .if1 .taken)
 enum-known-answer : tie.Need-enum-known-answer
 enum-known-answer c = search needs
 
+returns-2 : tie.Need-returns-2
+returns-2 c = by-refusal (c .before .before .before .before .before .args .w) (c .before .answer .given .0 .0) (c .before .before .before .before .if1 .left) (c .before .answer .given .1)
+
 enum-told : tie.Need-enum-told
 enum-told c = search needs
 
@@ -21,14 +24,11 @@ entry-at-requires c κs = search needs
 enum-known-e : tie.Need-enum-known-e
 enum-known-e c = search needs
 
-enum-told-2 : tie.Need-enum-told-2
-enum-told-2 c = search needs
-
-returns-2 : tie.Need-returns-2
-returns-2 c = by-refusal (c .before .before .before .before .before .args .w) (c .before .answer .given .0 .0) (c .before .before .before .before .if1 .left) (c .before .answer .given .1)
-
 returns-3 : tie.Need-returns-3
 returns-3 c = by-entry (c .before .before .before .before .before .before .before .before .args .w) (Is (c .before .e .given .0 .0)) (c .before .before .before .before .before .before .before .if1 .left) (c .before .before .before .before .enum-told .given .1) (sym (c .before .e .given .1) ∙ c .before .before .before .entry-at .ensures)
+
+enum-told-2 : tie.Need-enum-told-2
+enum-told-2 c = search needs
 
 returns-4 : tie.Need-returns-4
 returns-4 c = by-entry (c .before .before .before .before .before .before .before .args .w) Past (c .before .before .before .before .before .before .if1 .left) (c .before .before .before .enum-told .given .1) (sym (c .enum-told2 .given .1) ∙ c .before .before .entry-at .ensures)
@@ -39,10 +39,10 @@ shows-spec =
     (tie.spec
     returns
     enum-known-answer
+    returns-2
     enum-told
     entry-at-requires
     enum-known-e
-    enum-told-2
-    returns-2
     returns-3
+    enum-told-2
     returns-4)

@@ -1,83 +1,76 @@
 -- `words::store` meets its contract.
 use denote.Ref.{now}
-use Rattle.words.proofs.Stored.{no-room, too-late, fits}
+use Prim.Native.Nat.{_-_}
+use native.Mathlib.Omega.{arith}
+use Rattle.words.proofs.Stored.{no-room, too-late, Storing, begins, same-length as same-length-of, place, goes-on, ends}
 use borrow.Author.Needs.{needs}
 use Rattle.words.proofs.store.Statement.{statement}
 use Rattle.words.proofs.store.Tie as tie
 
-returns : tie.Need-returns
-returns c = no-room (now (c .before .before .args .out)) (c .before .before .args .at) _ (c .if1 .taken)
+abbrev Inv-loop : tie.InvT-loop
+Inv-loop out₀ at words n i₀ out i = Storing out₀ at words out i
 
-returns-2 : tie.Need-returns-2
-returns-2 c = too-late (now (c .before .before .before .args .out)) (c .before .before .before .args .at) _ (c .before .if1 .left) (c .if2 .taken)
+abbrev μ-loop : tie.MeasureT-loop
+μ-loop out₀ at words n i₀ out i = 9 - i
 
-array-read-three : tie.Need-array-read-three
-array-read-three c = search needs
+returns : tie.Need-returns Inv-loop μ-loop
+returns c = no-room (now (c .before .args .out)) (c .before .args .at) (c .before .args .t3) (c .if1 .taken)
 
-array-read-three-2 : tie.Need-array-read-three-2
-array-read-three-2 c = search needs
+returns-2 : tie.Need-returns-2 Inv-loop μ-loop
+returns-2 c = too-late (now (c .before .before .args .out)) (c .before .before .args .at) (c .before .before .args .t3) (c .before .if1 .left) (c .if2 .taken)
 
-array-read-three-3 : tie.Need-array-read-three-3
-array-read-three-3 c = search needs
+loop-holds : tie.Need-loop-holds Inv-loop μ-loop
+loop-holds c = begins (now (c .before .before .args .out)) (c .before .before .args .at) (c .before .before .args .t3) (c .before .if1 .left) (c .if2 .left)
 
-three-requires : tie.Need-three-requires
-three-requires c κs = search needs
+mul-out : tie.Need-mul-out Inv-loop μ-loop
+mul-out c = search needs
 
-add-three : tie.Need-add-three
-add-three c = search needs
+array-read-out : tie.Need-array-read-out Inv-loop μ-loop
+array-read-out c = search needs
 
-array-read-three-4 : tie.Need-array-read-three-4
-array-read-three-4 c = search needs
+add-out : tie.Need-add-out Inv-loop μ-loop
+add-out c =
+    let x = c .before .before .before .before in
+    let p = place (now (x .args .out)) (x .args .at) (x .args .t3) (c .before .loop .inv) (c .loop-test .taken) in
+    record { fits = omega (arith, x .good .0 .0) }
 
-array-read-three-5 : tie.Need-array-read-three-5
-array-read-three-5 c = search needs
+mul-out-2 : tie.Need-mul-out-2 Inv-loop μ-loop
+mul-out-2 c = search needs
 
-array-read-three-6 : tie.Need-array-read-three-6
-array-read-three-6 c = search needs
+slice-write-out : tie.Need-slice-write-out Inv-loop μ-loop
+slice-write-out c = place (now (c .before .before .before .before .args .out)) (c .before .before .before .before .args .at) (c .before .before .before .before .args .t3) (c .before .loop .inv) (c .loop-test .taken)
 
-three-requires-2 : tie.Need-three-requires-2
-three-requires-2 c κs = search needs
+add-i : tie.Need-add-i Inv-loop μ-loop
+add-i c = search needs
 
-add-three-2 : tie.Need-add-three-2
-add-three-2 c = search needs
+loop-less : tie.Need-loop-less Inv-loop μ-loop
+loop-less c = search needs
 
-array-read-three-7 : tie.Need-array-read-three-7
-array-read-three-7 c = search needs
+loop-again : tie.Need-loop-again Inv-loop μ-loop
+loop-again c = goes-on (now (c .before .before .before .before .args .out)) (c .before .before .before .before .args .at) (c .before .before .before .before .args .t3) (c .before .loop .inv) (c .loop-test .taken)
 
-array-read-three-8 : tie.Need-array-read-three-8
-array-read-three-8 c = search needs
+same-length : tie.Need-same-length Inv-loop μ-loop
+same-length c = same-length-of (now (c .before .before .before .before .args .out)) (c .before .before .before .before .args .at) (c .before .before .before .before .args .t3) (c .before .loop .inv)
 
-array-read-three-9 : tie.Need-array-read-three-9
-array-read-three-9 c = search needs
-
-three-requires-3 : tie.Need-three-requires-3
-three-requires-3 c κs = search needs
-
-same-length : tie.Need-same-length
-same-length c = search needs
-
-returns-3 : tie.Need-returns-3
-returns-3 c = fits (now (c .before .before .before .before .before .before .before .before .before .before .before .before .before .before .before .args .out)) (c .before .before .before .before .before .before .before .before .before .before .before .before .before .before .before .args .at) _ (c .before .before .before .before .before .before .before .before .before .before .before .before .before .if1 .left) (c .before .before .before .before .before .before .before .before .before .before .before .before .if2 .left) (c .before .before .before .before .before .before .before .before .before .before .three .ensures) (c .before .before .before .before .before .before .three2 .ensures) (c .before .before .three3 .ensures)
+returns-3 : tie.Need-returns-3 Inv-loop μ-loop
+returns-3 c = ends (now (c .before .before .before .before .args .out)) (c .before .before .before .before .args .at) (c .before .before .before .before .args .t3) (c .before .loop .inv) (c .loop-test .left)
 
 pub store-spec : {M : Type 1} → statement M
 store-spec =
     tie.close
     (tie.spec
+    Inv-loop
+    μ-loop
     returns
     returns-2
-    array-read-three
-    array-read-three-2
-    array-read-three-3
-    three-requires
-    add-three
-    array-read-three-4
-    array-read-three-5
-    array-read-three-6
-    three-requires-2
-    add-three-2
-    array-read-three-7
-    array-read-three-8
-    array-read-three-9
-    three-requires-3
+    loop-holds
+    mul-out
+    array-read-out
+    add-out
+    mul-out-2
+    slice-write-out
+    add-i
+    loop-less
+    loop-again
     same-length
     returns-3)

@@ -7,14 +7,19 @@ use Rattle.core_clocks.proofs.sources.mco2_input.Tie as tie
 enum-told : tie.Need-enum-told
 enum-told c = search needs
 
+returns : tie.Need-returns
+unfolding mco2Input
+returns c = rw (c .enum-told .given .1)
+
 enum-told-2 : tie.Need-enum-told-2
 enum-told-2 c = search needs
 
-p-clock-requires : tie.Need-p-clock-requires
-p-clock-requires c κs = search needs
-
 planned-requires : tie.Need-planned-requires
 planned-requires c κs = search needs
+
+returns-2 : tie.Need-returns-2
+unfolding mco2Input
+returns-2 c = rw (c .before .enum-told2 .given .1) (c .planned .ensures)
 
 enum-told-3 : tie.Need-enum-told-3
 enum-told-3 c = search needs
@@ -22,40 +27,29 @@ enum-told-3 c = search needs
 hertz-or-0-requires : tie.Need-hertz-or-0-requires
 hertz-or-0-requires c κs = search needs
 
-enum-told-4 : tie.Need-enum-told-4
-enum-told-4 c = search needs
-
-p-clock-requires-2 : tie.Need-p-clock-requires-2
-p-clock-requires-2 c κs = search needs
-
-planned-requires-2 : tie.Need-planned-requires-2
-planned-requires-2 c κs = search needs
-
-enum-told-5 : tie.Need-enum-told-5
-enum-told-5 c = search needs
-
-enum-told-6 : tie.Need-enum-told-6
-enum-told-6 c = search needs
-
-returns : tie.Need-returns
-unfolding mco2Input
-returns c = rw (c .enum-told .given .1)
-
-returns-2 : tie.Need-returns-2
-unfolding mco2Input
-returns-2 c = rw (c .before .before .enum-told2 .given .1, ← c .before .p-clock .ensures) (c .planned .ensures)
-
 returns-3 : tie.Need-returns-3
 unfolding mco2Input
 returns-3 c = rw (c .before .enum-told3 .given .1, c .hertz-or-0 .ensures)
 
+enum-told-4 : tie.Need-enum-told-4
+enum-told-4 c = search needs
+
+planned-requires-2 : tie.Need-planned-requires-2
+planned-requires-2 c κs = search needs
+
 returns-4 : tie.Need-returns-4
 unfolding mco2Input
-returns-4 c = rw (c .before .before .enum-told4 .given .1, ← c .before .p-clock2 .ensures) (c .planned2 .ensures)
+returns-4 c = rw (c .before .enum-told4 .given .1) (c .planned2 .ensures)
+
+enum-told-5 : tie.Need-enum-told-5
+enum-told-5 c = search needs
 
 returns-5 : tie.Need-returns-5
 unfolding mco2Input
 returns-5 c = rw (c .enum-told5 .given .1)
+
+enum-told-6 : tie.Need-enum-told-6
+enum-told-6 c = search needs
 
 returns-6 : tie.Need-returns-6
 unfolding mco2Input
@@ -66,19 +60,17 @@ mco2-input-spec =
     tie.close
     (tie.spec
     enum-told
+    returns
     enum-told-2
-    p-clock-requires
     planned-requires
+    returns-2
     enum-told-3
     hertz-or-0-requires
-    enum-told-4
-    p-clock-requires-2
-    planned-requires-2
-    enum-told-5
-    enum-told-6
-    returns
-    returns-2
     returns-3
+    enum-told-4
+    planned-requires-2
     returns-4
+    enum-told-5
     returns-5
+    enum-told-6
     returns-6)

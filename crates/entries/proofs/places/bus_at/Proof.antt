@@ -1,7 +1,7 @@
 -- `entries::places::bus_at` meets its contract.
 use native.Mathlib.Omega.{arith}
 use Rattle.fields.specs.Segments.{busList}
-use Rattle.entries.proofs.Placed.{past, above}
+use Rattle.entries.proofs.Placed.{ended, above}
 use Rattle.entries.proofs.places.bus_at.Statement.{statement}
 use Rattle.entries.proofs.places.bus_at.Tie as tie
 
@@ -36,7 +36,7 @@ returns-10 : tie.Need-returns-10
 returns-10 c = rw (c .match .keys10)
 
 returns-11 : tie.Need-returns-11
-returns-11 c = past (busList (c .before .args .hpre) (c .before .args .ppre1) (c .before .args .ppre2) (c .before .args .ppre3) (c .before .args .ckpersel) (c .before .args .sw)) (c .before .args .k) (above 9 (c .before .args .k) (above 8 (c .before .args .k) (above 7 (c .before .args .k) (above 6 (c .before .args .k) (above 5 (c .before .args .k) (above 4 (c .before .args .k) (above 3 (c .before .args .k) (above 2 (c .before .args .k) (above 1 (c .before .args .k) (above 0 (c .before .args .k) (omega arith) (c .match .rest .0 .0 .0 .0 .0 .0 .0 .0 .0 .1)) (c .match .rest .0 .0 .0 .0 .0 .0 .0 .0 .1)) (c .match .rest .0 .0 .0 .0 .0 .0 .0 .1)) (c .match .rest .0 .0 .0 .0 .0 .0 .1)) (c .match .rest .0 .0 .0 .0 .0 .1)) (c .match .rest .0 .0 .0 .0 .1)) (c .match .rest .0 .0 .0 .1)) (c .match .rest .0 .0 .1)) (c .match .rest .0 .1)) (c .match .rest .1))
+returns-11 c = ended (busList (c .before .args .hpre) (c .before .args .ppre1) (c .before .args .ppre2) (c .before .args .ppre3) (c .before .args .ckpersel) (c .before .args .sw)) (c .before .args .k) (above 9 (c .before .args .k) (above 8 (c .before .args .k) (above 7 (c .before .args .k) (above 6 (c .before .args .k) (above 5 (c .before .args .k) (above 4 (c .before .args .k) (above 3 (c .before .args .k) (above 2 (c .before .args .k) (above 1 (c .before .args .k) (above 0 (c .before .args .k) (omega arith) (c .match .rest .0 .0 .0 .0 .0 .0 .0 .0 .0 .1)) (c .match .rest .0 .0 .0 .0 .0 .0 .0 .0 .1)) (c .match .rest .0 .0 .0 .0 .0 .0 .0 .1)) (c .match .rest .0 .0 .0 .0 .0 .0 .1)) (c .match .rest .0 .0 .0 .0 .0 .1)) (c .match .rest .0 .0 .0 .0 .1)) (c .match .rest .0 .0 .0 .1)) (c .match .rest .0 .0 .1)) (c .match .rest .0 .1)) (c .match .rest .1))
 
 pub bus-at-spec : {M : Type 1} → statement M
 bus-at-spec =

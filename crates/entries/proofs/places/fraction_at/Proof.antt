@@ -19,17 +19,17 @@ mul-t7 c = search needs
 add-t8 : tie.Need-add-t8
 add-t8 c = search needs
 
-mul-t10 : tie.Need-mul-t10
-mul-t10 c = search needs
+mul-t9 : tie.Need-mul-t9
+mul-t9 c = search needs
 
-add-t11 : tie.Need-add-t11
-add-t11 c = search needs
+add-t10 : tie.Need-add-t10
+add-t10 c = search needs
 
-mul-t13 : tie.Need-mul-t13
-mul-t13 c = search needs
+mul-t11 : tie.Need-mul-t11
+mul-t11 c = search needs
 
-add-t14 : tie.Need-add-t14
-add-t14 c = search needs
+add-t12 : tie.Need-add-t12
+add-t12 c = search needs
 
 returns : tie.Need-returns
 returns c = search needs
@@ -54,10 +54,10 @@ fraction-at-spec =
     enum-known-f
     mul-t7
     add-t8
-    mul-t10
-    add-t11
-    mul-t13
-    add-t14
+    mul-t9
+    add-t10
+    mul-t11
+    add-t12
     returns
     returns-2
     returns-3

@@ -13,10 +13,12 @@ setting-at-requires : tie.Need-setting-at-requires
 setting-at-requires c κs = search needs
 
 returns : tie.Need-returns
-returns c = search needs
+returns c = rw (c .enum-told .given .1)
 
 returns-2 : tie.Need-returns-2
 returns-2 c = rw (c .before .before .x .given .1) (c .setting-at .ensures)
 
 pub setup-at-spec : {M : Type 1} → statement M
-setup-at-spec = tie.close (tie.spec enum-told enum-known-x setting-at-requires returns returns-2)
+setup-at-spec =
+    tie.close
+    (tie.spec enum-told enum-known-x setting-at-requires returns returns-2)

@@ -1,23 +1,32 @@
 -- `entries::places::start_at` meets its contract.
 use borrow.Author.Needs.{needs}
+use native.Mathlib.Omega.{arith}
+use Rattle.types.specs.declared.PllOutput.the-variants.{On}
+use Rattle.rules.specs.Document01.Entries.{outputStart}
+use Rattle.entries.proofs.Placed.{past}
 use Rattle.entries.proofs.places.start_at.Statement.{statement}
 use Rattle.entries.proofs.places.start_at.Tie as tie
 
-enum-told : tie.Need-enum-told
-enum-told c = search needs
+mul-t4 : tie.Need-mul-t4
+mul-t4 c = search needs
 
-enum-known-x : tie.Need-enum-known-x
-enum-known-x c = search needs
+add-t5 : tie.Need-add-t5
+add-t5 c = search needs
 
-start-output-at-requires : tie.Need-start-output-at-requires
-start-output-at-requires c κs = search needs
+mul-t6 : tie.Need-mul-t6
+mul-t6 c = search needs
+
+add-t7 : tie.Need-add-t7
+add-t7 c = search needs
 
 returns : tie.Need-returns
-returns c = search needs
+returns c = rw (c .match .keys1)
 
 returns-2 : tie.Need-returns-2
-returns-2 c = rw (c .before .before .x .given .1) (c .start-output-at .ensures)
+returns-2 c = rw (c .match .keys2)
+
+returns-3 : tie.Need-returns-3
+returns-3 c = past (outputStart (c .before .args .j) (On 0 0)) (c .before .args .k) (omega (arith, c .match .rest))
 
 pub start-at-spec : {M : Type 1} → statement M
-start-at-spec =
-    tie.close (tie.spec enum-told enum-known-x start-output-at-requires returns returns-2)
+start-at-spec = tie.close (tie.spec mul-t4 add-t5 mul-t6 add-t7 returns returns-2 returns-3)

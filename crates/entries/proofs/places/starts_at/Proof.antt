@@ -1,23 +1,15 @@
 -- `entries::places::starts_at` meets its contract: inside a part, or past it.
+use borrow.Author.Needs.{needs}
 use mathlib.Core.List.{_++_}
 use mathlib.Core.Path.{_∙_}
 use Prim.Native.Nat.{_-_}
-use borrow.Author.Needs.{needs}
+use native.Mathlib.Omega.{arith}
 use Rattle.rules.specs.Document01.Entries.{startEntries}
 use Rattle.fields.specs.Segments.{pllOf}
 use Rattle.entries.proofs.Counted.{start-length}
-use Rattle.entries.proofs.Placed.{first, later}
+use Rattle.entries.proofs.Placed.{first, later, with-start}
 use Rattle.entries.proofs.places.starts_at.Statement.{statement}
 use Rattle.entries.proofs.places.starts_at.Tie as tie
-
-array-copy-out-a : tie.Need-array-copy-out-a
-array-copy-out-a c = search needs
-
-array-copy-out-b : tie.Need-array-copy-out-b
-array-copy-out-b c = search needs
-
-array-copy-out-c : tie.Need-array-copy-out-c
-array-copy-out-c c = search needs
 
 start-requires : tie.Need-start-requires
 start-requires c κs = search needs
@@ -27,11 +19,11 @@ start-at-requires c κs = search needs
 
 returns : tie.Need-returns
 returns c =
-    let x = c .before .before .before .before .before .before .args .t1 in
-    let k = c .before .before .before .before .before .before .args .k in
+    let x = c .before .before .before .args .plls in
+    let k = c .before .before .before .args .k in
     let a = c .before .before .start in
     first (startEntries 0 (pllOf x 0)) (startEntries 1 (pllOf x 1) ++ startEntries 2 (pllOf x 2)) (a .result) k (a .ensures .0 ∙ start-length 0 (pllOf x 0)) (c .before .if1 .taken)
-    (c .start-at .ensures)
+    (with-start 0 (pllOf x 0) k (omega (arith, a .ensures .0, (c .before .if1 .taken))) (c .start-at .ensures))
 
 start-requires-2 : tie.Need-start-requires-2
 start-requires-2 c κs = search needs
@@ -41,36 +33,33 @@ start-at-requires-2 c κs = search needs
 
 returns-2 : tie.Need-returns-2
 returns-2 c =
-    let x = c .before .before .before .before .before .before .before .before .args .t1 in
-    let k = c .before .before .before .before .before .before .before .before .args .k in
+    let x = c .before .before .before .before .before .args .plls in
+    let k = c .before .before .before .before .before .args .k in
     let a = c .before .before .before .before .start in
     let l = k - a .result in
     let b = c .before .before .start2 in
     later (startEntries 0 (pllOf x 0)) (startEntries 1 (pllOf x 1) ++ startEntries 2 (pllOf x 2)) (a .result) k (a .ensures .0 ∙ start-length 0 (pllOf x 0)) (c .before .before .before .if1 .left)
     (first (startEntries 1 (pllOf x 1)) (startEntries 2 (pllOf x 2)) (b .result) l (b .ensures .0 ∙ start-length 1 (pllOf x 1)) (c .before .if2 .taken)
-    (c .start-at2 .ensures))
+    (with-start 1 (pllOf x 1) l (omega (arith, b .ensures .0, (c .before .if2 .taken))) (c .start-at2 .ensures)))
 
 start-at-requires-3 : tie.Need-start-at-requires-3
 start-at-requires-3 c κs = search needs
 
 returns-3 : tie.Need-returns-3
 returns-3 c =
-    let x = c .before .before .before .before .before .before .before .before .args .t1 in
-    let k = c .before .before .before .before .before .before .before .before .args .k in
+    let x = c .before .before .before .before .before .args .plls in
+    let k = c .before .before .before .before .before .args .k in
     let a = c .before .before .before .before .start in
     let l = k - a .result in
     let b = c .before .before .start2 in
     later (startEntries 0 (pllOf x 0)) (startEntries 1 (pllOf x 1) ++ startEntries 2 (pllOf x 2)) (a .result) k (a .ensures .0 ∙ start-length 0 (pllOf x 0)) (c .before .before .before .if1 .left)
     (later (startEntries 1 (pllOf x 1)) (startEntries 2 (pllOf x 2)) (b .result) l (b .ensures .0 ∙ start-length 1 (pllOf x 1)) (c .before .if2 .left)
-    (c .start-at3 .ensures))
+    (with-start 2 (pllOf x 2) (l - b .result) (omega (arith, a .ensures .0, b .ensures .0, c .before .before .before .before .before .pre, c .before .before .before .if1 .left, c .before .if2 .left)) (c .start-at3 .ensures)))
 
 pub starts-at-spec : {M : Type 1} → statement M
 starts-at-spec =
     tie.close
     (tie.spec
-    array-copy-out-a
-    array-copy-out-b
-    array-copy-out-c
     start-requires
     start-at-requires
     returns

@@ -34,16 +34,4 @@ returns-4 : tie.Need-returns-4
 returns-4 c = rw (c .before .before .before .before .before .before .before .first2 .given .1, c .before .before .before .before .second2 .given .1, c .before .third2 .given .1)
 
 pub in-order-spec : {M : Type 1} → statement M
-in-order-spec =
-    tie.close
-    (tie.spec
-    enum-known-first
-    enum-known-first-2
-    enum-known-second
-    enum-known-second-2
-    enum-known-third
-    enum-known-third-2
-    returns
-    returns-2
-    returns-3
-    returns-4)
+in-order-spec = tie.close (tie.spec enum-known-first returns enum-known-first-2 enum-known-second returns-2 enum-known-second-2 enum-known-third returns-3 enum-known-third-2 returns-4)

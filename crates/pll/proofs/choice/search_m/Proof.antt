@@ -1,10 +1,12 @@
-use Rattle.pll.proofs.Search.{before-first, after-last, between, best-same, Held, held-first, held-less, held-not, held-number, held-fits}
+-- `pll::choice::search_m` meets its contract.
+use Rattle.pll.proofs.Search.{before-first, after-last, between, best-same, best-exact, Held, held-first, held-less, held-not, held-number, held-fits}
 use Rattle.pll.specs.Search.{numberOf}
 use Rattle.rules.proofs.Document01.ChoiceOfM.{best-none, best-more, range-le}
 use Rattle.rules.specs.Document01.ChoiceOfM.{inRange, bestTo, chosenM}
 use Rattle.laws.proofs.Numbers.{signed-less-held}
 use Rattle.types.specs.declared.FoundM.the-variants.{Nothing}
 use borrow.Author.Needs.{needs}
+use borrow.Author.Tests.{eqb-true}
 use native.Mathlib.Nat.{div-le-self}
 use native.Mathlib.Omega.{arith}
 use Prim.Native.Nat.{ℕ, _+_, _-_, _/_, _≤_, _<_, min}
@@ -25,11 +27,15 @@ abbrev μ-loop : tie.MeasureT-loop
 μ-loop source target low high last best₀ least₀ m₀ best least m = 64 - m
 
 -- an M that the loop reaches is in range
-reached : (c : tie.In-loop Inv-loop μ-loop) → inRange (c .before .before .before .args .source) (c .before .before .before .args .low) (c .before .before .before .args .high) (c .before .loop .m) ≡ true
-reached c =
-    let p = c .before .before .before .pre in
-    let i = c .before .loop .inv in
-    between _ _ _ (p .0) (p .1) (p .2) _ (i .1) (omega arith)
+module _ (c : tie.Then1 Inv-loop μ-loop) where
+  abbrev here : c .before .before .loop .m ≤ c .before .before .before .last-m .result
+  here = c .before .goes-on .ensures .0 (c .if1 .taken)
+
+  reached : inRange (c .before .before .before .before .args .source) (c .before .before .before .before .args .low) (c .before .before .before .before .args .high) (c .before .before .loop .m) ≡ true
+  reached =
+      let p = c .before .before .before .before .pre in
+      let i = c .before .before .loop .inv in
+      between _ _ _ (p .0) (p .1) (p .2) _ (i .1) (omega (arith, here))
 
 last-m-requires : tie.Need-last-m-requires Inv-loop μ-loop
 last-m-requires c κs = search needs
@@ -50,20 +56,24 @@ loop-holds c = let a = c .before .args in
     best-same _ _ _ _ 0 _ (omega arith) (λ k l m. before-first _ (a .low) _ (p .0) k (omega arith)) ∙ best-none _ _ _ _ in
     (c .last-m .ensures, omega arith, rw n refl)
 
+goes-on-requires : tie.Need-goes-on-requires Inv-loop μ-loop
+goes-on-requires c κs = search needs
+
 shortfall-requires : tie.Need-shortfall-requires Inv-loop μ-loop
-shortfall-requires c κs = let p = c .before .before .before .pre in
-    let i = c .before .loop .inv in
+shortfall-requires c κs = let p = c .before .before .before .before .pre in
+    let i = c .before .before .loop .inv in
     (omega arith, range-le _ _ _ (p .1) _ (reached c), p .3)
 
 add-m-2 : tie.Need-add-m-2 Inv-loop μ-loop
-add-m-2 c = omega arith
+add-m-2 c = omega (arith, here (c .before .before), c .before .before .before .before .loop .inv .0)
 
 loop-less : tie.Need-loop-less Inv-loop μ-loop
-loop-less c = omega arith
+loop-less c = omega (arith, here (c .before .before), c .before .before .before .before .loop .inv .0)
 
 loop-again : tie.Need-loop-again Inv-loop μ-loop
-loop-again c = let s = c .before .before .before .before .before in
-    let l = c .before .before .before .loop in
+loop-again c = let s = c .before .before .before .before .before .before in
+    let l = c .before .before .before .before .loop in
+    let h = here (c .before .before) in
     let i = l .inv in
     let a = s .args in
     let ir = reached (c .before .before) in
@@ -81,18 +91,22 @@ loop-again c = let s = c .before .before .before .before .before in
           (λ v. held-less _ _ _ _ f _ _ _ (omega arith) held ir (signed-less-held (record { sfits = short .ok }) (held-fits _ _ (s .pre .3) f _ _ held (v .0 .left)) (short .ensures) (v .1 .taken)))
           (w .0 .came)))
           (λ w. rw (w .2, w .3) (held-not _ _ _ _ f _ _ _ held ir (w .0 .left) (signed-less-held (record { sfits = short .ok }) (held-fits _ _ (s .pre .3) f _ _ held (w .0 .left)) (short .ensures) (w .1 .left))))
-          (c .if1 .came)),
+          (c .if2 .came)),
     )
 
 returns : tie.Need-returns Inv-loop μ-loop
 unfolding chosenM
-returns c = let a = c .before .before .before .args in
-    let p = c .before .before .before .pre in
-    let l = c .before .loop in
+returns c =
+    let s = c .before .before .before .before in
+    let a = s .args in
+    let l = c .before .before .loop in
     let i = l .inv in
-    let e : bestTo (a .source) (a .target) (a .low) (a .high) 63 ≡ bestTo (a .source) (a .target) (a .low) (a .high) (min (l .m - 1) 63) =
-    best-same _ _ _ _ _ 63 (omega arith) (λ k b t. after-last _ _ _ (p .1) k (omega arith)) in
-    held-number (a .source) (a .target) (bestTo (a .source) (a .target) (a .low) (a .high) (min (l .m - 1) 63)) (l .best) (l .least) (i .2) ∙ sym (ap numberOf e)
+    let n = min (l .m - 1) 63 in
+    let e : bestTo (a .source) (a .target) (a .low) (a .high) 63 ≡ bestTo (a .source) (a .target) (a .low) (a .high) n =
+    ⊎-elim (λ h. best-same _ _ _ _ _ 63 (omega arith) (λ k b t. after-last _ _ _ (s .pre .1) k (omega arith)))
+    (λ h. best-exact _ _ _ _ n (l .best) (l .least) (omega arith) (i .2) (h .0) (eqb-true (l .least) 0 (h .1)))
+    (c .before .goes-on .ensures .1 (c .if1 .left)) in
+    held-number (a .source) (a .target) (bestTo (a .source) (a .target) (a .low) (a .high) n) (l .best) (l .least) (i .2) ∙ sym (ap numberOf e)
 
 pub search-m-spec : {M : Type 1} → statement M
 search-m-spec =
@@ -105,6 +119,7 @@ search-m-spec =
     div-m
     add-m
     loop-holds
+    goes-on-requires
     shortfall-requires
     add-m-2
     loop-less

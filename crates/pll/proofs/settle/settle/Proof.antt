@@ -18,10 +18,10 @@ div-n : tie.Need-div-n
 div-n c = search needs
 
 returns : tie.Need-returns
-returns c = n-low _ _ _ _ _ _ _ refl (c .if1 .taken)
+returns c = n-low _ _ _ _ _ _ _ _ _ _ refl (c .if1 .taken)
 
 returns-2 : tie.Need-returns-2
-returns-2 c = n-high _ _ _ _ _ _ _ refl (c .before .if1 .left) (c .if2 .taken)
+returns-2 c = n-high _ _ _ _ _ _ _ _ _ _ refl (c .before .if1 .left) (c .if2 .taken)
 
 first-of-requires : tie.Need-first-of-requires
 first-of-requires c κs = search needs
@@ -45,27 +45,14 @@ returns-3 : tie.Need-returns-3
 returns-3 c = let m = c .before .before in
     let k = m .before in
     let e = k .before in
-    fracn-out _ _ _ _ _ _ _ refl (e .before .if1 .left) (e .if2 .left) (rw (← k .first-of .ensures) (sym (m .multiply .ensures) ∙ c .enum-told .given .1))
+    fracn-out _ _ _ _ _ _ _ _ _ _ refl (e .before .if1 .left) (e .if2 .left) (rw (← k .first-of .ensures) (sym (m .multiply .ensures) ∙ c .enum-told .given .1))
 
 returns-4 : tie.Need-returns-4
 returns-4 c = let b = c .before .before in
     let m = b .before .before in
     let k = m .before in
     let e = k .before in
-    c .place .ensures ∙ fracn-in _ _ _ _ _ _ _ refl (e .before .if1 .left) (e .if2 .left) _ _ (rw (← k .first-of .ensures) (sym (m .multiply .ensures) ∙ b .fraction .given .1))
+    c .place .ensures ∙ fracn-in _ _ _ _ _ _ _ _ _ _ refl (e .before .if1 .left) (e .if2 .left) _ _ (rw (← k .first-of .ensures) (sym (m .multiply .ensures) ∙ b .fraction .given .1))
 
 pub settle-spec : {M : Type 1} → statement M
-settle-spec =
-    tie.close
-    (tie.spec
-    div-n
-    returns
-    returns-2
-    first-of-requires
-    div-multiply
-    multiply-requires
-    enum-told
-    enum-known-fraction
-    place-requires
-    returns-3
-    returns-4)
+settle-spec = tie.close (tie.spec div-n returns returns-2 first-of-requires div-multiply multiply-requires enum-told returns-3 enum-known-fraction place-requires returns-4)

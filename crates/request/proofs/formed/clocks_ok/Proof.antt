@@ -19,7 +19,7 @@ both-requires-2 : tie.Need-both-requires-2
 both-requires-2 c κs = search needs
 
 returns : tie.Need-returns
-returns c = cc
+returns c = rw (c .both2 .ensures, c .before .both .ensures, c .before .before .three-ok3 .ensures, c .before .before .before .three-ok2 .ensures, c .before .before .before .before .three-ok .ensures)
 
 pub clocks-ok-spec : {M : Type 1} → statement M
 clocks-ok-spec =

@@ -1,19 +1,17 @@
 -- `request::formed::formed` meets its contract.
-use native.Mathlib.Omega.{arith}
 use borrow.Author.Needs.{needs}
 use Rattle.request.specs.Parts.{formed}
-use Rattle.request.proofs.Codes.{at-least}
 use Rattle.request.proofs.formed.formed.Statement.{statement}
 use Rattle.request.proofs.formed.formed.Tie as tie
 
 clocks-ok-requires : tie.Need-clocks-ok-requires
-clocks-ok-requires c κs = omega (arith, at-least (c .before .args .three))
+clocks-ok-requires c κs = search needs
 
 outputs-ok-requires : tie.Need-outputs-ok-requires
-outputs-ok-requires c κs = omega (arith, at-least (c .before .before .args .three))
+outputs-ok-requires c κs = search needs
 
 plls-ok-requires : tie.Need-plls-ok-requires
-plls-ok-requires c κs = (omega (arith, at-least (c .before .before .before .args .three)), omega arith)
+plls-ok-requires c κs = search needs
 
 both-requires : tie.Need-both-requires
 both-requires c κs = search needs
@@ -23,7 +21,7 @@ both-requires-2 c κs = search needs
 
 returns : tie.Need-returns
 unfolding formed
-returns c = cc
+returns c = rw (c .both2 .ensures, c .before .both .ensures, c .before .before .plls-ok .ensures, c .before .before .before .outputs-ok .ensures, c .before .before .before .before .clocks-ok .ensures)
 
 pub formed-spec : {M : Type 1} → statement M
 formed-spec =

@@ -31,7 +31,7 @@ both-requires-4 : tie.Need-both-requires-4
 both-requires-4 c κs = search needs
 
 returns : tie.Need-returns
-returns c = cc
+returns c = rw (c .both4 .ensures, c .before .both3 .ensures, c .before .before .both2 .ensures, c .before .before .before .both .ensures, c .before .before .before .before .hertz-ok2 .ensures, c .before .before .before .before .before .before .hertz-ok .ensures)
 
 pub outputs-ok-spec : {M : Type 1} → statement M
 outputs-ok-spec =

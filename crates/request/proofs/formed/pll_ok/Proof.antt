@@ -16,7 +16,7 @@ both-requires : tie.Need-both-requires
 both-requires c κs = search needs
 
 returns : tie.Need-returns
-returns c = cc
+returns c = rw (c .both .ensures, c .before .three-ok .ensures)
 
 pub pll-ok-spec : {M : Type 1} → statement M
 pll-ok-spec =

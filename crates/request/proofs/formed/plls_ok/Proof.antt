@@ -19,7 +19,7 @@ both-requires-2 : tie.Need-both-requires-2
 both-requires-2 c κs = search needs
 
 returns : tie.Need-returns
-returns c = cc
+returns c = rw (c .both2 .ensures, c .before .both .ensures, c .before .before .third-ok .ensures, c .before .before .before .pll-ok2 .ensures, c .before .before .before .before .pll-ok .ensures)
 
 pub plls-ok-spec : {M : Type 1} → statement M
 plls-ok-spec =

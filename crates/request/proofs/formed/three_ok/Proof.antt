@@ -25,7 +25,7 @@ both-requires-2 : tie.Need-both-requires-2
 both-requires-2 c κs = search needs
 
 returns : tie.Need-returns
-returns c = cc
+returns c = rw (c .both2 .ensures, c .before .both .ensures, c .before .before .hertz-ok3 .ensures, c .before .before .before .hertz-ok2 .ensures, c .before .before .before .before .hertz-ok .ensures)
 
 pub three-ok-spec : {M : Type 1} → statement M
 three-ok-spec =

@@ -27,7 +27,7 @@ both-requires-4 c κs = search needs
 
 returns : tie.Need-returns
 unfolding chipOk
-returns c = cc
+returns c = rw (c .both4 .ensures, c .before .both3 .ensures, c .before .before .odds-ok .ensures, c .before .before .before .two-or-three .ensures, c .before .before .before .before .both2 .ensures, c .before .before .before .before .before .both .ensures, c .before .before .before .before .before .before .before .before .is-hsidiv .ensures)
 
 pub chip-ok-spec : {M : Type 1} → statement M
 chip-ok-spec =

@@ -7,7 +7,7 @@ scale-of-requires : tie.Need-scale-of-requires
 scale-of-requires c κs = search needs
 
 returns : tie.Need-returns
-returns c = cc
+returns c = rw (c .before .before .before .before .before .scale-of .ensures)
 
 pub state-of-spec : {M : Type 1} → statement M
 state-of-spec = tie.close (tie.spec scale-of-requires returns)

@@ -25,7 +25,7 @@ hertz-at-requires-3 : tie.Need-hertz-at-requires-3
 hertz-at-requires-3 c κs = search needs
 
 returns : tie.Need-returns
-returns c = cc
+returns c = rw (c .hertz-at3 .ensures, c .before .hertz-at2 .ensures, c .before .before .hertz-at .ensures, c .before .before .before .strategy-at .ensures)
 
 pub part-at-spec : {M : Type 1} → statement M
 part-at-spec =

@@ -1,0 +1,13 @@
+-- `request::none_read` meets its contract.
+use borrow.Author.Needs.{needs}
+use Rattle.request.proofs.none_read.Statement.{statement}
+use Rattle.request.proofs.none_read.Tie as tie
+
+no-part-requires : tie.Need-no-part-requires
+no-part-requires c κs = search needs
+
+returns : tie.Need-returns
+returns c = rw (c .no-part .ensures)
+
+pub none-read-spec : {M : Type 1} → statement M
+none-read-spec = tie.close (tie.spec no-part-requires returns)
