@@ -1,0 +1,63 @@
+-- What the C functions answer, case by case: a chip or a slice of another length, a plan, a refusal.
+use mathlib.Core.Path.{_≡_, refl, _∙_}
+use mathlib.Core.Logic.{_≢_}
+use mathlib.Core.Bool.{Bool, true, false}
+use mathlib.Core.List.{List}
+use Prim.Native.Nat.{ℕ}
+use borrow.Author.Tests.{eq-eqb, ne-eqb}
+use lib.ListN.{length}
+use Rattle.types.specs.declared.Chip.{Chip}
+use Rattle.types.specs.declared.Refusal.{Refusal}
+use Rattle.types.specs.declared.Answer.{Answer}
+use Rattle.types.specs.declared.Answer.the-variants.{Accepted, Refused}
+use Rattle.types.specs.declared.Planned.{Planned}
+use Rattle.rules.specs.Document01.Refusals.{numberOf}
+use Rattle.rules.specs.Document01.Plan.{planOf, bankPlanOf}
+use Rattle.rules.specs.Document01.Entries.{entriesOf}
+use Rattle.rules.specs.Document01.Bank.{applyAll}
+use Rattle.rules.specs.Document01.Words.{storedFrom, reportWords, listed as listedIn}
+use Rattle.clock_api.specs.Calls.{chipFrom, outside, askedOf, bankAsked, codeOf, reportBy, listBy}
+
+module _ (request chip : List ℕ) (fits : Bool) where
+  pub no-chip : length chip ≢ 7 → outside ≡ askedOf request chip fits
+  unfolding askedOf
+  no-chip h = rw (ne-eqb (length chip) 7 h)
+
+  pub no-fit : length chip ≡ 7 → fits ≡ false → outside ≡ askedOf request chip fits
+  unfolding askedOf
+  no-fit h f = rw (eq-eqb (length chip) 7 h, f)
+
+  pub there : length chip ≡ 7 → fits ≡ true → planOf request (chipFrom chip) ≡ askedOf request chip fits
+  unfolding askedOf
+  there h f = rw (eq-eqb (length chip) 7 h, f)
+
+module _ (x : Planned) (room : List ℕ) {r : List ℕ} where
+  pub reported : x .answer ≡ Accepted → r ≡ storedFrom room 0 (reportWords (x .plan)) → (0 ≡ codeOf (x .answer)) × (r ≡ reportBy (x .answer) x room)
+  reported a e = rw a (refl, e)
+
+  pub listed : x .answer ≡ Accepted → r ≡ listedIn (entriesOf x) room → (0 ≡ codeOf (x .answer)) × (r ≡ listBy (x .answer) x room)
+  listed a e = by (x .answer) a
+    where
+      by : (y : Answer) → y ≡ Accepted → (0 ≡ codeOf y) × (r ≡ listBy y x room)
+      by y a = rw a (refl, e)
+
+module _ (x : Planned) (room : List ℕ) {n : Refusal} {k : ℕ} where
+  pub report-kept : x .answer ≡ Refused n → k ≡ numberOf n → (k ≡ codeOf (x .answer)) × (room ≡ reportBy (x .answer) x room)
+  report-kept a e = rw a (e, refl)
+
+  pub list-kept : x .answer ≡ Refused n → k ≡ numberOf n → (k ≡ codeOf (x .answer)) × (room ≡ listBy (x .answer) x room)
+  list-kept a e = rw a (e, refl)
+
+-- ---- the bank call
+module _ (request chip : List ℕ) (words : ℕ) (b : List ℕ) where
+  pub bank-kept : length chip ≢ 7 → (1 ≡ codeOf (bankAsked request chip words .answer)) × (b ≡ applyAll (entriesOf (bankAsked request chip words)) b)
+  unfolding bankAsked entriesOf
+  bank-kept h = rw (ne-eqb (length chip) 7 h) (refl, refl)
+
+  as-asked : length chip ≡ 7 → bankPlanOf request (chipFrom chip) words ≡ bankAsked request chip words
+  unfolding bankAsked
+  as-asked h = rw (eq-eqb (length chip) 7 h)
+
+  pub bank-done : {x : Planned} {c : Chip} {r : ℕ} {b₁ : List ℕ} → length chip ≡ 7 → c ≡ chipFrom chip → x ≡ bankPlanOf request c words → r ≡ codeOf (x .answer) → b₁ ≡ applyAll (entriesOf x) b
+      → (r ≡ codeOf (bankAsked request chip words .answer)) × (b₁ ≡ applyAll (entriesOf (bankAsked request chip words)) b)
+  bank-done h d e f g = rw (g, f, e, d, as-asked h) (refl, refl)

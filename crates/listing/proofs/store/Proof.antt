@@ -1,0 +1,79 @@
+-- `listing::store` meets its contract.
+use denote.Ref.{now}
+use Prim.Native.Nat.{_-_}
+use native.Mathlib.Omega.{arith}
+use borrow.Author.Needs.{needs}
+use Rattle.rules.specs.Document01.Entries.{entriesOf}
+use Rattle.rules.proofs.Document01.Length.{at-most}
+use Rattle.listing.proofs.Listed.{Going, begins, goes-on, ends, whole, put-length}
+use Rattle.listing.proofs.store.Statement.{statement}
+use Rattle.listing.proofs.store.Tie as tie
+
+abbrev Inv-loop : tie.InvT-loop
+Inv-loop x list₀ n i₀ list i = Going (entriesOf x) list₀ n list i
+
+abbrev μ-loop : tie.MeasureT-loop
+μ-loop x list₀ n i₀ list i = n - i
+
+entry-count-requires : tie.Need-entry-count-requires Inv-loop μ-loop
+entry-count-requires c κs = search needs
+
+cast-put : tie.Need-cast-put Inv-loop μ-loop
+cast-put c = let m = at-most (c .before .before .args .x) in let e = c .entry-count .ensures in record { fits = omega arith }
+
+put-requires : tie.Need-put-requires Inv-loop μ-loop
+put-requires c κs = search needs
+
+loop-holds : tie.Need-loop-holds Inv-loop μ-loop
+loop-holds c = begins _ _ _ (c .before .before .before .before .entry-count .ensures)
+
+mul-store : tie.Need-mul-store Inv-loop μ-loop
+mul-store c = let m = at-most (c .before .before .before .before .before .before .before .before .before .args .x) in let g = c .before .before .loop .inv .count in let h = c .before .loop-test .taken in record { fits = omega arith }
+
+add-store : tie.Need-add-store Inv-loop μ-loop
+add-store c = let m = at-most (c .before .before .before .before .before .before .before .before .before .args .x) in let g = c .before .before .loop .inv .count in let h = c .before .loop-test .taken in record { fits = omega arith }
+
+entry-at-requires : tie.Need-entry-at-requires Inv-loop μ-loop
+entry-at-requires c κs = search needs
+
+place-words-requires : tie.Need-place-words-requires Inv-loop μ-loop
+place-words-requires c κs = search needs
+
+store-requires : tie.Need-store-requires Inv-loop μ-loop
+store-requires c κs = search needs
+
+add-i : tie.Need-add-i Inv-loop μ-loop
+add-i c = search needs
+
+loop-less : tie.Need-loop-less Inv-loop μ-loop
+loop-less c = search needs
+
+loop-again : tie.Need-loop-again Inv-loop μ-loop
+loop-again c = goes-on _ _ _ (c .before .before .before .before .before .before .before .loop .inv) (c .before .before .before .before .before .before .loop-test .taken) (c .before .before .before .place-words .ensures) (c .before .before .before .before .entry-at .ensures) (c .before .before .store .ensures)
+
+same-length : tie.Need-same-length Inv-loop μ-loop
+same-length c = put-length (now (c .before .before .before .before .before .before .before .before .args .list)) (c .before .loop .list) (c .before .before .before .before .before .before .entry-count .result) (c .before .before .before .before .put .ensures) (c .before .loop .inv .same)
+
+returns : tie.Need-returns Inv-loop μ-loop
+returns c = whole (entriesOf (c .before .before .before .before .before .before .before .before .args .x)) (now (c .before .before .before .before .before .before .before .before .args .list)) (c .before .before .before .before .before .before .entry-count .ensures) (c .before .before .before .before .put .ensures) (ends _ _ _ (c .before .loop .inv) (c .loop-test .left))
+
+pub store-spec : {M : Type 1} → statement M
+store-spec =
+    tie.close
+    (tie.spec
+    Inv-loop
+    μ-loop
+    entry-count-requires
+    cast-put
+    put-requires
+    loop-holds
+    mul-store
+    add-store
+    entry-at-requires
+    place-words-requires
+    store-requires
+    add-i
+    loop-less
+    loop-again
+    same-length
+    returns)

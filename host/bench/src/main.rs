@@ -1,0 +1,134 @@
+//! Time per request: the planner's C functions and the unchanged sources on the same requests, in one run. `bench [rounds]`
+use clock_api::{raw, Bank, Bytes, Chip, Request};
+use hal::{Asked, Quiet, Record, State, Variant};
+use requests::Random;
+use std::time::Instant;
+
+const REQUESTS: usize = 4_000;
+
+/// A request in all the forms that are measured.
+struct Sample {
+    asked: Asked,
+    request: Request,
+    bytes: Bytes,
+}
+
+fn main() {
+    if hal::QUIET.is_empty() {
+        println!("bench: skipped, {}", hal::SOURCES);
+        return;
+    }
+    let rounds = std::env::args().nth(1).and_then(|text| text.parse().ok()).unwrap_or(25);
+    for chip in [Chip::two_plls(), Chip::three_plls()] {
+        if let Some(quiet) = hal::QUIET.iter().find(|quiet| quiet.plls == chip.plls as u8) {
+            table(&chip, quiet, rounds);
+        }
+    }
+    leaf(rounds);
+    println!("Realistic requests that get a plan, {REQUESTS} for each chip, the same ones in");
+    println!("every row; the rows take turns, and each has the best of {rounds} rounds. freeze is");
+    println!("the Rust's setters and freeze, unchanged sources, overflow checks on, over a");
+    println!("stand-in that stores each field in a word and answers every poll at once: no");
+    println!("time of real registers is in it. The C functions take a request's bytes.");
+}
+
+/// The best of the rounds for each piece of work, in ns a time; the pieces take turns.
+fn best<const N: usize>(rounds: u32, times: usize, work: [&mut dyn FnMut(); N]) -> [f64; N] {
+    let mut best = [f64::MAX; N];
+    let mut work = work;
+    for _ in 0..rounds {
+        for (k, piece) in work.iter_mut().enumerate() {
+            let start = Instant::now();
+            piece();
+            best[k] = best[k].min(start.elapsed().as_nanos() as f64 / times as f64);
+        }
+    }
+    best
+}
+
+/// Keeps a result from being optimised away.
+fn keep<T>(value: &T) {
+    unsafe { std::ptr::read_volatile(value as *const T as *const u8) };
+}
+
+fn table(chip: &Chip, quiet: &Quiet, rounds: u32) {
+    let samples = samples(chip);
+    let numbers = chip.to_bytes();
+    let mut report = [0; raw::REPORT];
+    let mut list = [0; raw::LIST];
+    let mut bank = Bank::reset();
+    let recording = Variant::find(chip.plls as u8, chip.odd_p).expect("the sources' own permissions");
+    let (state, mut used) = (State::default(), Record::default());
+    let mut record = |sample: &Sample| used = recording.run(&sample.asked, &state, std::mem::take(&mut used)).record;
+    let [freeze, recorded, bytes, plan, store, entries] = best(
+        rounds,
+        REQUESTS,
+        [
+            &mut || samples.iter().for_each(|sample| quiet.time_freeze(&sample.asked)),
+            &mut || samples.iter().for_each(&mut record),
+            &mut || samples.iter().for_each(|sample| keep(&sample.request.to_bytes(chip))),
+            &mut || samples.iter().for_each(|sample| keep(&raw::plan(&sample.bytes, &numbers, &mut report))),
+            &mut || samples.iter().for_each(|sample| keep(&raw::bank(&sample.bytes, &numbers, &mut bank.words))),
+            &mut || samples.iter().for_each(|sample| keep(&raw::entries(&sample.bytes, &numbers, &mut list))),
+        ],
+    );
+    println!("{} PLLs{:>42}{:>15}", chip.plls as u8, "ns a request", "of freeze");
+    for (name, time) in [
+        ("setters and freeze", freeze),
+        ("the same, recorded as in differential", recorded),
+        ("clock_plan: 55 words of a report", plan),
+        ("clock_bank: plan, list applied to 82 words", store),
+        ("clock_plan and clock_bank", plan + store),
+        ("clock_entries: plan, list as 622 words", entries),
+        ("Request::to_bytes", bytes),
+    ] {
+        println!("  {name:<44}{time:>10.1}{:>15.2}", time / freeze);
+    }
+    println!();
+}
+
+/// FRACN alone: the sources' function is private, so its operations stand here.
+fn leaf(rounds: u32) {
+    let mut random = Random::new(2);
+    let inputs: Vec<[u32; 4]> = (0..REQUESTS)
+        .map(|_| {
+            let (reference, n, divider) = (1_000_000 + random.below(1_000_000), 75 + random.below(300), 1 + random.below(128));
+            [reference, n, (reference * n + random.below(reference)) / divider, divider]
+        })
+        .collect();
+    let [native, planner] = best(
+        rounds,
+        REQUESTS,
+        [&mut || inputs.iter().for_each(|[r, n, o, d]| keep(&fracn(*r, *n, *o, *d))), &mut || {
+            inputs.iter().for_each(|[r, n, o, d]| keep(&raw::fracn(*r, *n, *o, *d)))
+        }],
+    );
+    println!("FRACN{:>43}{:>15}", "ns a call", "of f32");
+    println!("  {:<44}{native:>10.1}{:>15.2}", "its five f32 operations in Rust", 1.0);
+    println!("  {:<44}{planner:>10.1}{:>15.2}\n", "clock_fracn", planner / native);
+}
+
+fn fracn(reference: u32, n: u32, output: u32, divider: u32) -> u32 {
+    let fracn = 8192.0f32 * (((output as f32 * divider as f32) / reference as f32) - n as f32);
+    if (0.0..=8191.0).contains(&fracn) {
+        fracn as u32
+    } else {
+        8192
+    }
+}
+
+fn samples(chip: &Chip) -> Vec<Sample> {
+    let mut random = Random::new(1);
+    let mut samples = Vec::new();
+    let mut report = [0; raw::REPORT];
+    while samples.len() < REQUESTS {
+        let mut asked = requests::realistic(&mut random);
+        asked.scale = chip.scale as u8;
+        let request = requests::typed(&asked);
+        let bytes = request.to_bytes(chip);
+        if raw::plan(&bytes, &chip.to_bytes(), &mut report) == 0 {
+            samples.push(Sample { asked, request, bytes });
+        }
+    }
+    samples
+}

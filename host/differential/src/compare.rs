@@ -1,0 +1,276 @@
+//! One request through the C functions and through the sources, word by word.
+use crate::judge::{self, Chip, Want};
+use crate::leaves;
+use clock_api::{raw, Bank, Entry};
+use hal::{Asked, Record, Run, State, Variant};
+use requests::{Case, Kind, Random, KINDS};
+
+/// What was compared.
+#[derive(Default)]
+pub struct Tally {
+    /// By kind: requests, plans, refusals.
+    pub kinds: [[u64; 3]; KINDS.len()],
+    /// By number.
+    pub refusals: [u64; 25],
+    /// Refused with 14 or 15, and the sources ran to an end.
+    pub departures: [u64; 2],
+    /// Requests inside their codes that no setter builds.
+    pub by_no_setter: u64,
+    pub entries: u64,
+    /// PLLs that clock_pll was compared on.
+    pub plls: u64,
+    pub walks: u64,
+    /// Walks that a CSIRDY down ended with 24.
+    pub ended: u64,
+    /// Lent slices of another length.
+    pub lengths: u64,
+}
+
+pub struct Comparison {
+    pub tally: Tally,
+    pub random: Random,
+    /// What is lent to the C functions.
+    report: [u32; raw::REPORT],
+    list: [u32; raw::LIST],
+    /// The last run's record, for its memory.
+    used: Record,
+}
+
+/// A word that no call stores.
+const UNTOUCHED: u32 = 0xA5A5_5A5A;
+
+type Checked<T> = Result<T, String>;
+
+fn check(holds: bool, what: impl FnOnce() -> String) -> Checked<()> {
+    if holds {
+        Ok(())
+    } else {
+        Err(what())
+    }
+}
+
+impl Comparison {
+    pub fn new(seed: u64) -> Comparison {
+        Comparison {
+            tally: Tally::default(),
+            random: Random::new(seed),
+            report: [UNTOUCHED; raw::REPORT],
+            list: [UNTOUCHED; raw::LIST],
+            used: Record::default(),
+        }
+    }
+
+    /// Compares one request; the error says what differs.
+    pub fn case(&mut self, case: &Case) -> Checked<()> {
+        self.report = [UNTOUCHED; raw::REPORT];
+        self.list = [UNTOUCHED; raw::LIST];
+        let before = self.bank();
+        let mut bank = before;
+        let number = raw::plan(&case.request, &case.chip, &mut self.report);
+        let of_entries = raw::entries(&case.request, &case.chip, &mut self.list);
+        let of_bank = raw::bank(&case.request, &case.chip, &mut bank.words);
+        check(of_entries == number && of_bank == number, || {
+            format!("clock_plan answers {number}, clock_entries {of_entries}, clock_bank {of_bank}")
+        })?;
+        if number != 0 {
+            self.untouched(&bank, &before)?;
+        }
+        self.count(case.kind, number);
+        if case.kind == Kind::Damaged {
+            self.lengths(case, number)?;
+        }
+        match judge::read(&case.request, &case.chip) {
+            None => {
+                check(number == 1, || format!("not well formed, which is 1; the planner answers {number}"))?;
+                self.refused_walk(case, number)
+            }
+            Some((asked, chip)) => self.well_formed(case, &asked, &chip, number, &before, &bank),
+        }
+    }
+
+    /// At reset values, or with any words.
+    fn bank(&mut self) -> Bank {
+        let mut bank = Bank::reset();
+        if self.random.one_in(4) {
+            for word in &mut bank.words {
+                *word = self.random.u32();
+            }
+        }
+        bank
+    }
+
+    fn count(&mut self, kind: Kind, number: u32) {
+        let row = &mut self.tally.kinds[kind as usize];
+        row[0] += 1;
+        row[if number == 0 { 1 } else { 2 }] += 1;
+        if let Some(count) = self.tally.refusals.get_mut(number as usize) {
+            *count += 1;
+        }
+    }
+
+    fn untouched(&self, bank: &Bank, before: &Bank) -> Checked<()> {
+        let kept = |words: &[u32]| words.iter().all(|word| *word == UNTOUCHED);
+        check(kept(&self.report), || "refused, and the report is changed".into())?;
+        check(kept(&self.list), || "refused, and the list is changed".into())?;
+        check(bank == before, || "refused, and the bank is changed".into())
+    }
+
+    /// Lent slices of another length: 1 for a report or a list, 2 for a bank unless 1 comes first.
+    fn lengths(&mut self, case: &Case, number: u32) -> Checked<()> {
+        let mut words = vec![UNTOUCHED; self.random.below(700) as usize];
+        self.tally.lengths += 1;
+        let len = words.len();
+        let first = |other: u32| if number == 1 { 1 } else { other };
+        if len != raw::REPORT {
+            let answer = raw::plan(&case.request, &case.chip, &mut words);
+            check(answer == 1, || format!("a report of {len} words: {answer}"))?;
+        }
+        if len != raw::LIST {
+            let answer = raw::entries(&case.request, &case.chip, &mut words);
+            check(answer == 1, || format!("a list of {len} words: {answer}"))?;
+        }
+        if len != raw::BANK {
+            let answer = raw::bank(&case.request, &case.chip, &mut words);
+            check(answer == first(2), || format!("a bank of {len} words: {answer}"))?;
+        }
+        check(words.iter().all(|word| *word == UNTOUCHED), || format!("{len} words lent, and some are changed"))
+    }
+
+    fn well_formed(&mut self, case: &Case, asked: &Asked, chip: &Chip, number: u32, before: &Bank, bank: &Bank) -> Checked<()> {
+        check(case.meant.map_or(true, |meant| meant == *asked), || format!("the wrapper's bytes say {asked:?}"))?;
+        if !asked.by_setters() {
+            self.tally.by_no_setter += 1;
+        }
+        let variant = Variant::find(chip.plls, chip.odd).ok_or("no variant of the sources")?;
+        let state = State { hsion: chip.hsion, hsidiv: chip.hsidiv, ..State::default() };
+        let run = variant.run(asked, &state, std::mem::take(&mut self.used));
+        let want = judge::wanted(asked, chip, &run)?;
+        match (&want, &run.ended) {
+            (Want::Plan, Ok(report)) => {
+                check(number == 0, || format!("the Rust ends; the planner refuses with {number}"))?;
+                self.plan(case, asked, report, &run, before, bank)?;
+            }
+            (Want::Departure(wanted), ended) => {
+                check(number == *wanted, || format!("the Rust wrote P's divider against {wanted}; the planner answers {number}"))?;
+                if ended.is_ok() {
+                    self.tally.departures[*wanted as usize - 14] += 1;
+                }
+            }
+            (Want::Refusal(wanted), Err(text)) => {
+                check(number == *wanted, || format!("the Rust panics ({text}), which is {wanted}; the planner answers {number}"))?
+            }
+            _ => return Err(format!("the Rust's run and what is wanted of it disagree: {want:?}")),
+        }
+        if number != 0 {
+            self.refused_walk(case, number)?;
+        } else if self.random.one_in(16) {
+            self.walk(case, asked, &state, variant)?;
+        }
+        self.used = run.record;
+        Ok(())
+    }
+
+    /// Every clock, every entry, every word of the bank; then the leaves.
+    fn plan(
+        &mut self,
+        case: &Case,
+        asked: &Asked,
+        report: &[u32; 55],
+        run: &Run<[u32; 55]>,
+        before: &Bank,
+        bank: &Bank,
+    ) -> Checked<()> {
+        if let Some(k) = (0..raw::REPORT).find(|k| report[*k] != self.report[*k]) {
+            return Err(format!("word {k} of the report: the Rust {}, the planner {}", report[k], self.report[k]));
+        }
+        let theirs = &run.record.entries;
+        let ours: Vec<&[u32]> = self.list[1..].chunks_exact(9).take(self.list[0] as usize).collect();
+        for k in 0..theirs.len().max(ours.len()) {
+            let (rust, planner) = (theirs.get(k).map(|nine| &nine[..]), ours.get(k).copied());
+            check(rust == planner, || format!("entry {k}: the Rust {}, the planner {}", shown(rust), shown(planner)))?;
+        }
+        self.tally.entries += theirs.len() as u64;
+        let mut applied = *before;
+        for nine in theirs {
+            applied.apply(&Entry::from_words(*nine).ok_or("an entry of the Rust that is none")?);
+        }
+        if let Some(k) = (0..raw::BANK).find(|k| applied.words[*k] != bank.words[*k]) {
+            return Err(format!("word {k} of the bank: the Rust's entries {}, the planner {}", applied.words[k], bank.words[k]));
+        }
+        let flash = theirs.iter().find(|nine| nine[1] == 48).map_or(0, |nine| nine[4] + 8 * nine[2]);
+        let leaf = raw::flash(report[3], asked.scale.into());
+        check(leaf == flash, || format!("wait states: the Rust {flash}, clock_flash {leaf}"))?;
+        self.tally.plls += leaves::compare(&case.request, &case.chip, report, &applied)?;
+        Ok(())
+    }
+
+    /// A walk of a refused request shows the refusal, whatever is read.
+    fn refused_walk(&mut self, case: &Case, number: u32) -> Checked<()> {
+        if !self.random.one_in(16) {
+            return Ok(());
+        }
+        let reads = [self.random.u32(), 1, 1, self.random.u32(), 0];
+        let mut shown = [UNTOUCHED; 30];
+        let count = raw::walk(&case.request, &case.chip, &reads, &mut shown);
+        let refused = [5, number, 0, 0, 0, 0, 0, 0, 0];
+        self.tally.walks += 1;
+        let as_it_should = count == 3 && shown[..27].chunks(9).all(|nine| nine == refused) && shown[27..] == [UNTOUCHED; 3];
+        check(as_it_should, || format!("a refused walk shows {count} times: {shown:?}"))
+    }
+
+    /// The sources again on a chip whose flags come up late, and the walk over what they read.
+    fn walk(&mut self, case: &Case, asked: &Asked, state: &State, variant: &Variant) -> Checked<()> {
+        let random = &mut self.random;
+        let misses = (0..14).map(|_| if random.one_in(2) { 0 } else { random.below(4) as u8 }).collect();
+        let state = State { csirdy: !random.one_in(8), misses, ..state.clone() };
+        let run = variant.run(asked, &state, Record::default());
+        let last = match &run.ended {
+            Ok(_) => [0; 9],
+            Err(text) => {
+                check(!state.csirdy && text.contains("csirdy"), || format!("the Rust panics where it had not before: {text}"))?;
+                self.tally.ended += 1;
+                [5, 24, 0, 0, 0, 0, 0, 0, 0]
+            }
+        };
+        // what is read at an entry that reads nothing does not count
+        let mut reads: Vec<u32> = Vec::new();
+        for (entry, read) in run.record.entries.iter().zip(&run.record.reads) {
+            let used = if entry[0] == 1 { 0 } else { 1 + (entry[3] > 0) as usize };
+            reads.extend((0..2).map(|k| if k < used { read[k] } else { random.below(3) }));
+        }
+        reads.extend((0..2 + random.below(6)).map(|_| random.below(3)));
+        walked(&run.record.entries, last, reads.len(), |shown| raw::walk(&case.request, &case.chip, &reads, shown))?;
+        self.tally.walks += 1;
+        Ok(())
+    }
+}
+
+/// What a walk over so many reads has to show: the entries, then the last again and again.
+pub fn walked(entries: &[hal::Nine], last: hal::Nine, reads: usize, walk: impl FnOnce(&mut [u32]) -> usize) -> Checked<()> {
+    let steps = reads / 2 + 1;
+    let mut words = vec![UNTOUCHED; 9 * steps + 4];
+    let count = walk(&mut words);
+    check(count == steps, || format!("a walk over {reads} reads shows {count} times, and not {steps}"))?;
+    for k in 0..steps {
+        let (want, got) = (entries.get(k).unwrap_or(&last), &words[9 * k..][..9]);
+        check(got == want, || format!("a walk shows {} at place {k}, the Rust has {}", shown(Some(got)), shown(Some(want))))?;
+    }
+    check(words[9 * steps..] == [UNTOUCHED; 4], || "a walk stores past what it shows".into())
+}
+
+/// Nine words in words.
+pub fn shown(nine: Option<&[u32]>) -> String {
+    let nine = match nine {
+        None => return "nothing".into(),
+        Some(nine) => nine,
+    };
+    let mut words = [0; 9];
+    words.copy_from_slice(nine);
+    clock_api::Shown::from_words(words).map_or_else(
+        || format!("{nine:?}"),
+        |shown| match shown {
+            clock_api::Shown::Next(entry) => format!("'{entry}'"),
+            other => format!("{other:?}"),
+        },
+    )
+}
