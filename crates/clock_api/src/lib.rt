@@ -10,6 +10,7 @@ use types::Chip;
 use types::Planned;
 use types::Refusal;
 
+mod one_pll;
 mod walks;
 
 // The chip's numbers, a byte for each.

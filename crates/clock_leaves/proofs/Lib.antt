@@ -1,3 +1,2 @@
 pub mod Reasons
 pub mod Leaf
-pub mod OnePll

@@ -8,15 +8,8 @@ use Rattle.types.specs.declared.Fracn.the-variants.{Value, OutOfRange}
 use Rattle.types.specs.declared.Hertz.{Hertz}
 use Rattle.types.specs.declared.Hertz.the-variants.{Unset, Hz}
 use Rattle.ieee754.specs.Whole.{vcoWhole}
-use Rattle.types.specs.declared.Pll.{Pll}
-use Rattle.types.specs.declared.Refusal.the-variants.{OutsideCodes}
-use Rattle.rules.specs.Document01.Result.{Result, refused}
 use Rattle.rules.specs.Document01.Refusals.{numberOf}
 use Rattle.rules.specs.Document01.Words.{storedFrom, hertzWords}
-use Rattle.request.specs.declared.PartRead.{PartRead}
-use Rattle.pll.specs.declared.PllAnswer.{PllAnswer}
-use Rattle.pll.specs.Answer.{onePllOf}
-use Rattle.pll_words.specs.PllWords.{pllStored}
 use Rattle.prescaler.specs.declared.BusAnswer.{BusAnswer}
 use Rattle.prescaler.specs.declared.McoAnswer.{McoAnswer}
 use Rattle.flash.specs.declared.FlashWaits.{FlashWaits}
@@ -67,17 +60,3 @@ mcoRoom true (McoAnswer.Prescaler x) room = storedFrom room 0 (x .pre ∷ hertzW
 -- whether a number of two codes and a slice of so many words are as they should be
 abbrev pub leafFits : (set words length : ℕ) → Bool
 leafFits set words length = ltb set 2 && eqb length words
-
--- one PLL: refusal 1 where odd is outside its codes, the slice has not 18 words or the bytes are no part of a request; else what is chosen
-unfoldable pub pllFor : (odd source : ℕ) → PartRead → (words : ℕ) → Result Pll
-pllFor odd source x words = cond (eqb words 18 && (ltb odd 2 && x .read)) (onePllOf (eqb odd 1) source (x .part)) (refused OutsideCodes)
-
--- 0, or the refusal's number
-abbrev pub pllCode : PllAnswer → ℕ
-pllCode (PllAnswer.Refused n) = numberOf n
-pllCode (PllAnswer.Planned x) = 0
-
--- its settings and its outputs; a refusal changes no word
-abbrev pub pllRoom : PllAnswer → List ℕ → List ℕ
-pllRoom (PllAnswer.Refused n) room = room
-pllRoom (PllAnswer.Planned x) room = pllStored x room

@@ -4,7 +4,6 @@ ghost use mathlib.Core.List.{[], _∷_};
 ghost use lib.ListN.{length};
 ghost use Rattle.rules.specs.Document01.Words.{storedFrom};
 
-mod one_pll;
 mod prescalers;
 mod reset;
 mod steps;

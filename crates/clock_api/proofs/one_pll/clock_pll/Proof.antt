@@ -1,11 +1,11 @@
--- `clock_leaves::clock_pll` meets its contract.
+-- `clock_api::clock_pll` meets its contract.
 use denote.Ref.{now}
 use borrow.Author.Tests.{not-true, not-false}
 use Rattle.request.specs.Request.{partOf, partRead}
-use Rattle.clock_leaves.proofs.OnePll.{no-room, no-code, no-part, answered}
+use Rattle.clock_api.proofs.OnePll.{no-room, no-code, no-part, answered}
 use borrow.Author.Needs.{needs}
-use Rattle.clock_leaves.proofs.one_pll.clock_pll.Statement.{statement}
-use Rattle.clock_leaves.proofs.one_pll.clock_pll.Tie as tie
+use Rattle.clock_api.proofs.one_pll.clock_pll.Statement.{statement}
+use Rattle.clock_api.proofs.one_pll.clock_pll.Tie as tie
 
 returns : tie.Need-returns
 returns c =

@@ -3,7 +3,7 @@ ghost use mathlib.Core.Path.{_≡_};
 ghost use lib.ListN.{length};
 ghost use Rattle.request.specs.Request.{partOf, partRead};
 ghost use Rattle.pll.specs.Answer.{pllAnswer};
-ghost use Rattle.clock_leaves.specs.Leaves.{pllFor, pllCode, pllRoom};
+ghost use Rattle.clock_api.specs.OnePll.{pllFor, pllCode, pllRoom};
 use pll::PllAnswer;
 
 // What is chosen for one PLL, in 18 words. The part is its 16 bytes of a request; odd is 1 where P may divide by an odd number.

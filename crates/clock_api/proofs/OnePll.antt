@@ -11,7 +11,7 @@ use borrow.Author.Tests.{eq-eqb, ne-eqb, lt-ltb, le-ltb}
 use Rattle.request.specs.declared.PartRead.{PartRead}
 use Rattle.pll.specs.declared.PllAnswer.{PllAnswer}
 use Rattle.pll.specs.Answer.{pllAnswer, onePllOf}
-use Rattle.clock_leaves.specs.Leaves.{pllFor, pllCode, pllRoom}
+use Rattle.clock_api.specs.OnePll.{pllFor, pllCode, pllRoom}
 
 module _ (odd source : ℕ) (x : PartRead) (room : List ℕ) where
   -- both clauses

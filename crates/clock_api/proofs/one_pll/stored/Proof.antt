@@ -1,8 +1,8 @@
--- `clock_leaves::one_pll::stored` meets its contract.
+-- `clock_api::one_pll::stored` meets its contract.
 use mathlib.Core.Path.{refl}
 use borrow.Author.Needs.{needs}
-use Rattle.clock_leaves.proofs.one_pll.stored.Statement.{statement}
-use Rattle.clock_leaves.proofs.one_pll.stored.Tie as tie
+use Rattle.clock_api.proofs.one_pll.stored.Statement.{statement}
+use Rattle.clock_api.proofs.one_pll.stored.Tie as tie
 
 enum-known-x : tie.Need-enum-known-x
 enum-known-x c = search needs
