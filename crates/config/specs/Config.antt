@@ -17,7 +17,7 @@ use Rattle.rules.specs.Document01.Bytes.{noPart}
 use Rattle.rules.specs.Document01.Request.{limited, stated, forPll1Q, forPll1P, forPll2P, pll1Asked, pll2Asked, sourceOf, systemOf, needsPll1, withP, like, forSystemClock, sourced}
 use Rattle.config.specs.declared.Configured.{Configured}
 
--- One call, steps 1 to 3, with refusals 3 to 6, and what PLL1 is asked for. That `pllsOf` begins with it is proved in crates/rcc/proofs/Steps.antt
+-- One call, steps 1 to 3, with refusals 3 to 6, and what PLL1 is asked for. That `pllsOf` begins with it is proved in crates/freeze/proofs/Steps.antt
 unfoldable pub configOf : Request → Result PllRequest
 configOf q = do
   limited q
