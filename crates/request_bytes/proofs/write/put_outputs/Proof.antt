@@ -61,7 +61,7 @@ returns c =
     rw (f .flag-byte .ensures, m1 .mco1-code .ensures, m2 .mco2-code .ensures) at
     (then 47 (run (a .out .now) 45 (f .flag-byte .result ∷ m1 .mco1-code .result ∷ []))
     (then 52 (h1 .put-hertz .ensures)
-    (then 53 (run _ 52 (m2 .mco2-code .result ∷ [])) (h2 .put-hertz2 .ensures) (omega arith))
+    (then 53 (run (h1 .put-hertz .last .0) 52 (m2 .mco2-code .result ∷ [])) (h2 .put-hertz2 .ensures) (omega arith))
     (omega (arith, hertz-length (a .request .mco1))))
     (omega arith))
 
