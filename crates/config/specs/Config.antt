@@ -36,7 +36,7 @@ configured q (refused n) = blank n
 configured q (ok a) = record { answer = Accepted; source = sourceOf q; system = systemOf q; needs = needsPll1 q; pll1 = a; pll2 = pll2Asked q }
 
 -- ---- for the private functions
--- what an MCO is asked for, where it is fed from here
+-- step 2: what an MCO is asked for, where it is fed from here
 abbrev pub fed : Bool → Hertz → Hertz
 fed from mco = cond from mco Unset
 

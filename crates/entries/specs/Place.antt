@@ -21,12 +21,12 @@ entryAt (e ∷ es) (suc k) = entryAt es k
 abbrev pub entryOr : List Entry → ℕ → Entry
 entryOr es k = getD es k (Read 0)
 
--- VCOSEL; RGE; M; N − 1: document 01's, of these numbers
+-- Register entries, each PLL: VCOSEL; RGE; M; N − 1, of these numbers
 abbrev pub baseOf : (j vcosel rge m n : ℕ) → List Entry
 baseOf j vcosel rge m n =
     Set (ofPll j Fields.VCOSEL) vcosel ∷ Set (ofPll j Fields.RGE) rge ∷ Set (ofPll j Fields.M) m ∷ Set (ofPll j Fields.N) (n - 1) ∷ []
 
--- what P, Q, R of PLL j add
+-- Register entries, each PLL: what P, Q, R of PLL j add
 abbrev pub outputsOf : (j : ℕ) → (p q r : PllOutput) → List Entry
 outputsOf j p q r =
     outputEntries (ofPll j Fields.P) (ofPll j Fields.PEN) p

@@ -140,7 +140,7 @@ abbrev pub waitsIn : FlashWaits → Waits
 waitsIn FlashWaits.Outside = record { latency = 0; delay = 0 }
 waitsIn (FlashWaits.Waits l d) = record { latency = l; delay = d }
 
--- ---- the plan's other numbers
+-- ---- the plan's other numbers: steps 5, 7 and 9, and the codes of document 01, Register entries, for SRC, SW and the MCOs' selectors
 abbrev pub chosen : Request → ChipState → (needs : Bool) → (hclk ppre1 ppre2 : ℕ) → Numbers
 chosen q c needs hclk ppre1 ppre2 = record {
   timx = timerOf hclk ppre1;

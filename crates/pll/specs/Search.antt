@@ -11,6 +11,6 @@ abbrev pub numberOf : FoundM → ℕ
 numberOf Nothing = 0
 numberOf (M m) = m
 
--- the search is over: past the last M, or at an M that falls short by nothing
+-- One PLL, third point: the search is over past the last M, or at an M that falls short by nothing
 abbrev pub Over : (m last best : ℕ) → (exact : Bool) → Type 0
 Over m last best exact = (last < m) ⊎ ((best ≢ 0) × (exact ≡ true))

@@ -16,10 +16,12 @@ abbrev pub asked : ℕ → Hertz
 asked zero = Unset
 asked (suc f) = Hz (suc f)
 
+-- a strategy as a test: One call, second paragraph (Integer, Fractional)
 abbrev pub isFractional : Strategy → Bool
 isFractional Integer = false
 isFractional Fractional = true
 
+-- and back
 abbrev pub strategyOf : (fractional : Bool) → Strategy
 strategyOf true = Fractional
 strategyOf false = Integer
