@@ -1,23 +1,20 @@
-# Two commands: `make bench` is the main job, `make test` passes the tests. Both need the Rattle toolchain's `rt` on the PATH.
-.PHONY: bench bench-host host library test
-
-# the bench settings of document 01, by running the proved code
-bench:
-	@mkdir -p target && rt check settings >target/bench.log 2>&1 || { cat target/bench.log; rm -f target/bench.log; exit 1; }
-	@rm -f target/bench.log
-	@cat target/log/settings.stdout
+# `make test` passes the tests; `./plan` is the main job. Both need the Rattle toolchain's `rt` on the PATH.
+.PHONY: bench-host host library test
 
 # rt ci removes target/, so it comes last
 test:
 	scripts/check-docs
 	scripts/check-api
+	scripts/make-help --check
 	rt fmt --check
+	scripts/build plan $$(sed -n 's/^clock_[a-z]*: //p' crates.txt)
 	scripts/check-host
-	rt ci
+	scripts/check-plan
+	. scripts/quick && rt ci
 
 # target/staticlib/libclock_api.a, for C and Rust to link
 library:
-	@scripts/library
+	@mkdir -p target && scripts/library >target/library.log 2>&1 || { cat target/library.log; exit 1; }
 
 # the planner's library from C and Rust, and against the HAL's sources
 host:

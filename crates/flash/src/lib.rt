@@ -1,9 +1,9 @@
 // Flash wait states: rcc.rs, flash_setup.
 ghost use mathlib.Core.Path.{_≡_};
-ghost use Prim.Native.Nat.{_≤_, _<_};
+ghost use Prim.Native.Nat.{_+_, _≤_, _<_};
 ghost use Rattle.rules.specs.Document01.Flash.{columnOf, atColumn};
 ghost use Rattle.rules.specs.Document01.Chip.{scaleOf};
-ghost use Rattle.flash.specs.Flash.{packed, flashFor};
+ghost use Rattle.flash.specs.Flash.{packed, placed, flashFor};
 
 // Four rows, voltage scales 0 to 3, of 252 columns: a row is twelve lines of 21 columns. An entry is latency + 8 * delay, so \x0b is
 // latency 3 with delay 1, and \x1f is latency 7 with delay 3.
@@ -73,13 +73,26 @@ fn column(ahb: u32) -> u32
     if mhz < 251 { mhz } else { 251 }
 }
 
-// The entry of a row and a column.
+// The entry at a column of the row that begins at a place.
+fn at(row: usize, column: u8) -> u8
+    requires { ⌜ row + column < 1008 ⌝ }
+    ensures { λ r. ⌜ r ≡ placed (row + column) ⌝ }
+{
+    WAITS[row + column as usize]
+}
+
+// The entry of a row and a column. Each row has its own arm, and a column is a byte: so only the row that is read is laid out.
 fn entry(scale: u32, column: u32) -> u8
     requires { ⌜ (scale < 4) × (column < 252) ⌝ }
     ensures { λ r. ⌜ r ≡ packed (atColumn (scaleOf scale) column) ⌝ }
 {
-    let i = (scale * 252 + column) as usize;
-    WAITS[i]
+    let k = column as u8;
+    match scale {
+        0 => at(0, k),
+        1 => at(252, k),
+        2 => at(504, k),
+        _ => at(756, k),
+    }
 }
 
 // The wait states for an AHB clock at a voltage scale.

@@ -16,16 +16,11 @@ use Rattle.config.specs.Config.{configured}
 use Rattle.core_clocks.specs.declared.BusesAnswer.{BusesAnswer}
 use Rattle.core_clocks.specs.declared.McosAnswer.{McosAnswer}
 use Rattle.core_clocks.specs.CoreClocks.{busesAnswer, mcosAnswer}
-use Rattle.freeze.specs.declared.plls.PllsAnswer.{PllsAnswer}
 use Rattle.freeze.specs.Freeze as Spec
 
 pll-back : (y : Result Pll) → Spec.pllOf (pllAnswer y) ≡ y
 pll-back (refused n) = refl
 pll-back (ok x) = refl
-
-plls-back : (y : Result Rules.Plls) → Spec.pllsOf (Spec.pllsAnswer y) ≡ y
-plls-back (refused n) = refl
-plls-back (ok l) = refl
 
 buses-back : (y : Result Rules.Buses) → Spec.busesOf (busesAnswer y) ≡ y
 buses-back (refused n) = refl
@@ -38,16 +33,13 @@ mcos-back (ok m) = refl
 pub pll : {x : PllAnswer} (y : Result Pll) → x ≡ pllAnswer y → Spec.pllOf x ≡ y
 pll y e = ap Spec.pllOf e ∙ pll-back y
 
-pub plls : {x : PllsAnswer} (y : Result Rules.Plls) → x ≡ Spec.pllsAnswer y → Spec.pllsOf x ≡ y
-plls y e = ap Spec.pllsOf e ∙ plls-back y
-
 pub buses : {x : BusesAnswer} (y : Result Rules.Buses) → x ≡ busesAnswer y → Spec.busesOf x ≡ y
 buses y e = ap Spec.busesOf e ∙ buses-back y
 
 pub mcos : {x : McosAnswer} (y : Result Rules.Mcos) → x ≡ mcosAnswer y → Spec.mcosOf x ≡ y
 mcos y e = ap Spec.mcosOf e ∙ mcos-back y
 
-pub all : {x y z u v w : Result Pll} → x ≡ u → y ≡ v → z ≡ w → Spec.pllsAnswer (Spec.all x y z) ≡ Spec.pllsAnswer (Spec.all u v w)
+pub all : {x y z u v w : Result Pll} → x ≡ u → y ≡ v → z ≡ w → Spec.all x y z ≡ Spec.all u v w
 all d e f = rw (d, e, f)
 
 pub finish : (q : Request) (c : ChipState) (l : Rules.Plls) {x u : Result Rules.Buses} {y v : Result Rules.Mcos} → x ≡ u → y ≡ v → Spec.finish q c l x y ≡ Spec.finish q c l u v

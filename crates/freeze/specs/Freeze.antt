@@ -1,7 +1,6 @@
 -- What the private functions answer, by document 01, One call, from the top.
 use mathlib.Core.Bool.{Bool, true, cond}
 use Prim.Native.Nat.{ℕ}
-use mathlib.Core.List.{List, [], _∷_}
 use Rattle.types.specs.declared.Request.{Request}
 use Rattle.types.specs.declared.ChipState.{ChipState}
 use Rattle.types.specs.declared.Scale.{Scale}
@@ -10,7 +9,6 @@ use Rattle.types.specs.declared.Refusal.{Refusal}
 use Rattle.types.specs.declared.PllRequest.{PllRequest}
 use Rattle.types.specs.declared.Pll.{Pll}
 use Rattle.types.specs.declared.Pll.the-variants.{Idle}
-use Rattle.types.specs.declared.PllPlan.{PllPlan}
 use Rattle.types.specs.declared.Plan.{Plan}
 use Rattle.types.specs.declared.Planned.{Planned}
 use Rattle.rules.specs.Document01.Result.{Result, refused, ok, _>>=_, _>>_}
@@ -27,8 +25,6 @@ use Rattle.core_clocks.specs.declared.Buses.{Buses}
 use Rattle.core_clocks.specs.declared.BusesAnswer.{BusesAnswer}
 use Rattle.core_clocks.specs.declared.Mcos.{Mcos}
 use Rattle.core_clocks.specs.declared.McosAnswer.{McosAnswer}
-use Rattle.freeze.specs.declared.plls.Plls.{Plls}
-use Rattle.freeze.specs.declared.plls.PllsAnswer.{PllsAnswer}
 use Rattle.freeze.specs.declared.codes.Waits.{Waits}
 use Rattle.freeze.specs.declared.codes.Numbers.{Numbers}
 
@@ -55,12 +51,8 @@ pllOf (PllAnswer.Refused n) = refused n
 pllOf (PllAnswer.Planned x) = ok x
 
 -- step 4: the three PLLs
-abbrev pub plls : Plls → Rules.Plls
-plls l = record { pll1 = l .pll1; pll2 = l .pll2; pll3 = l .pll3 }
-
-abbrev pub pllsOf : PllsAnswer → Result Rules.Plls
-pllsOf (PllsAnswer.Refused n) = refused n
-pllsOf (PllsAnswer.Planned l) = ok (plls l)
+abbrev pub plls : (pll1 pll2 pll3 : Pll) → Rules.Plls
+plls pll1 pll2 pll3 = record { pll1 = pll1; pll2 = pll2; pll3 = pll3 }
 
 -- steps 6 and 7: AHB and APB1 to 3
 abbrev pub buses : Buses → Rules.Buses
@@ -109,19 +101,11 @@ all x y z = do
   pll1 ← x
   pll2 ← y
   pll3 ← z
-  ok (record { pll1 = pll1; pll2 = pll2; pll3 = pll3 })
+  ok (plls pll1 pll2 pll3)
 
 -- from the PLLs on, by what steps 1 to 3 settled
 abbrev pub configuredPlan : Request → ChipState → Configured → Result Plan
 configuredPlan q c s = withPlls q c (all (one true (c .odd1) (s .source) (s .pll1)) (one true (c .odd2) (s .source) (s .pll2)) (one (c .three) (c .odd3) (s .source) (pllAt q 2)))
-
-abbrev pub pllsAnswer : Result Rules.Plls → PllsAnswer
-pllsAnswer (refused n) = PllsAnswer.Refused n
-pllsAnswer (ok l) = PllsAnswer.Planned (record { pll1 = l .pll1; pll2 = l .pll2; pll3 = l .pll3 })
-
--- the PLLs of a plan
-abbrev pub planPlls : Rules.Plls → List PllPlan
-planPlls l = record { pll = l .pll1 } ∷ record { pll = l .pll2 } ∷ record { pll = l .pll3 } ∷ []
 
 -- ---- wait states
 -- Flash: the scale's number

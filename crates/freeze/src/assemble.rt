@@ -4,7 +4,6 @@ ghost use Rattle.rules.specs.Document01.Request as Step;
 ghost use Rattle.rules.specs.Document01.Plan.{planWith};
 ghost use Rattle.freeze.specs.Freeze as Spec;
 use crate::codes;
-use crate::plls::Plls;
 use core_clocks::Buses;
 use core_clocks::Mcos;
 use types::Answer;
@@ -63,30 +62,19 @@ pub fn refused(n: Refusal) -> Planned
     }
 }
 
-fn plan_plls(l: Plls) -> [PllPlan; 3]
-    ensures { λ r. ⌜ r ≡ Spec.planPlls (Spec.plls l) ⌝ }
-{
-    let pll1 = l.pll1;
-    let pll2 = l.pll2;
-    let pll3 = l.pll3;
-    [
-        PllPlan { pll: pll1 },
-        PllPlan { pll: pll2 },
-        PllPlan { pll: pll3 },
-    ]
-}
-
 pub fn accepted(
     q: Request,
     c: ChipState,
     needs: bool,
     sys: u32,
-    l: Plls,
+    pll1: Pll,
+    pll2: Pll,
+    pll3: Pll,
     b: Buses,
     m: Mcos,
 ) -> Planned
-    requires { ⌜ (needs ≡ Step.needsPll1 q) × (sys ≡ Spec.systemFrom q (Spec.plls l)) ⌝ }
-    ensures { λ r. ⌜ r ≡ Spec.accepted (planWith q c (Spec.plls l) (Spec.buses b) (Spec.mcos m)) ⌝ }
+    requires { ⌜ (needs ≡ Step.needsPll1 q) × (sys ≡ Spec.systemFrom q (Spec.plls pll1 pll2 pll3)) ⌝ }
+    ensures { λ r. ⌜ r ≡ Spec.accepted (planWith q c (Spec.plls pll1 pll2 pll3) (Spec.buses b) (Spec.mcos m)) ⌝ }
 {
     let hse = q.hse;
     let lse = q.lse;
@@ -96,7 +84,6 @@ pub fn accepted(
     let mco1 = out1.clock;
     let mco2 = out2.clock;
     let hclk = b.ahb.clock;
-    let plls = plan_plls(l);
     let k = codes::chosen(q, c, needs, hclk, b.apb1.pre, b.apb2.pre);
     let plan = Plan {
         sys,
@@ -117,7 +104,11 @@ pub fn accepted(
         mco1,
         mco2,
         three: c.three,
-        plls,
+        plls: [
+            PllPlan { pll: pll1 },
+            PllPlan { pll: pll2 },
+            PllPlan { pll: pll3 },
+        ],
         src: k.src,
         sw: k.sw,
         bypass: q.bypass,

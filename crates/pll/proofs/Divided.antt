@@ -85,8 +85,8 @@ module _ (odd : Bool) (source : ℕ) (fractional : Bool) (p q r low most : ℕ) 
   small : target < 2_147_483_648
   small = let t = target-le low most (g .end) in let e = good .to in omega arith
 
-  pub searched : (1 ≤ source) × (1 ≤ g .low) × (1 ≤ g .high) × (target < 2_147_483_648)
-  searched = (sp .source-above, good .lows, good .highs, small)
+  pub searched : (1 ≤ source) × (target < 2_147_483_648)
+  searched = (sp .source-above, small)
 
   pub starts : (1 ≤ low) × (1 ≤ most)
   starts = let e = ends in omega arith

@@ -12,9 +12,17 @@ use Rattle.types.specs.declared.FoundM.the-variants.{Nothing, M}
 use Rattle.laws.proofs.Tests.{by-test}
 use Rattle.rules.specs.Document01.ChoiceOfM.{inRange, shortfallOf, betterOf, bestTo, chosenM}
 use Rattle.rules.proofs.Document01.ChoiceOfM.{in-range, better-out, better-first, better-less, better-not}
-use Rattle.pll.specs.Search.{numberOf}
+use Rattle.pll.specs.Search.{lowOf, highOf, numberOf}
 
 -- ---- which M are in range
+pub low-pos : (t : Bool) → 1 ≤ lowOf t
+low-pos true = omega arith
+low-pos false = omega arith
+
+pub high-pos : (t : Bool) → 1 ≤ highOf t
+high-pos true = omega arith
+high-pos false = omega arith
+
 and-none : (a b : Bool) → b ≡ false → a && b ≡ false
 and-none true b h = h
 and-none false b h = refl

@@ -2,12 +2,13 @@
 use mathlib.Core.Path.{_≡_}
 use mathlib.Core.Bool.{Bool, true, false}
 use Prim.Native.Nat.{ℕ, zero, suc, _/_, _≤_, _<_, min, max}
+use lib.Dec.{ltb}
 use Rattle.types.specs.declared.Hertz.{Hertz}
 use Rattle.types.specs.declared.Hertz.the-variants.{Unset, Hz}
 use Rattle.types.specs.declared.Strategy.{Strategy}
 use Rattle.types.specs.declared.Strategy.the-variants.{Integer, Fractional}
 use Rattle.types.specs.declared.PllRequest.{PllRequest}
-use Rattle.rules.specs.Document01.OnePll.{noneZero, wanted, countedP, countedOutputs, least, largest, Range}
+use Rattle.rules.specs.Document01.OnePll.{noneZero, wanted, countedP, countedOutputs, least, largest, rangeOf}
 use Rattle.pll.specs.declared.outputs.Outputs.{Outputs}
 use Rattle.pll.specs.declared.vco.VcoRange.{VcoRange}
 
@@ -50,6 +51,6 @@ pub record Spanned (odd : Bool) (source : ℕ) (a : PllRequest) (low most : ℕ)
   pub near : most / 128 ≤ low
   pub below : most < 560_000_000
 
--- a range of document 01 as the code has it
-abbrev pub asRange : Range → VcoRange
-asRange g = record { vcosel = g .vcosel; start = g .start; end = g .end; low = g .low; high = g .high }
+-- the range for outputs up to most, as the code has it
+abbrev pub rangeFor : (most : ℕ) → VcoRange
+rangeFor most = record { medium = ltb most 420_000_000; vcosel = rangeOf most .vcosel; start = rangeOf most .start; end = rangeOf most .end }

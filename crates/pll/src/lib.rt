@@ -81,7 +81,7 @@ fn divide(
     if target < g.start {
         return PllAnswer::Refused(Refusal::TargetOutside);
     }
-    let m = choice::search_m(source, target, g.low, g.high);
+    let m = choice::search_m(source, target, g.medium);
     if m == 0 {
         return PllAnswer::Refused(Refusal::NoM);
     }

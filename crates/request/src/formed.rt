@@ -5,23 +5,16 @@ ghost use lib.ListN.{length};
 ghost use Rattle.rules.specs.Document01.Bytes.{sizeOf};
 ghost use Rattle.request.specs.Parts as Parts;
 ghost use Rattle.request.specs.Parts.{hertzOk, threeOk, pllOk, thirdOk, clocksOk, outputsOk, pllsOk};
-use crate::numbers;
 use crate::parts;
 
-// A hertz: 0 and four zeros, or 1 and any four bytes. All is read before it is judged, so no branch waits for a byte.
+// A hertz: 0 and four zeros, or 1 and any four bytes. All is read, and judged by `&` and `|`: no branch waits for a byte.
 fn hertz_ok(b: &[u8], at: usize) -> bool
     requires { ⌜ at + 5 ≤ length (now b) ⌝ }
     ensures { λ r. ⌜ r ≡ hertzOk (now (b .entry)) at ⌝ }
 {
     let set = b[at];
     let number = parts::word_at(b, at + 1);
-    if set > 1 {
-        return false;
-    }
-    if set == 1 {
-        return true;
-    }
-    number == 0
+    (set < 2) & ((set == 1) | (number == 0))
 }
 
 // Three hertz in a row.
@@ -32,7 +25,7 @@ fn three_ok(b: &[u8], at: usize) -> bool
     let first = hertz_ok(b, at);
     let second = hertz_ok(b, at + 5);
     let third = hertz_ok(b, at + 10);
-    numbers::both(first, numbers::both(second, third))
+    first & (second & third)
 }
 
 // A PLL's part.
@@ -42,7 +35,7 @@ pub fn pll_ok(b: &[u8], at: usize) -> bool
 {
     let strategy = b[at] < 2;
     let outputs = three_ok(b, at + 1);
-    numbers::both(strategy, outputs)
+    strategy & outputs
 }
 
 // The PLL3 part, where there is one.
@@ -63,7 +56,7 @@ fn clocks_ok(b: &[u8]) -> bool
     let first = three_ok(b, 0);
     let second = three_ok(b, 15);
     let third = three_ok(b, 30);
-    numbers::both(first, numbers::both(second, third))
+    first & (second & third)
 }
 
 // The bypass flag, and MCO1 and MCO2 with their sources.
@@ -76,8 +69,7 @@ fn outputs_ok(b: &[u8]) -> bool
     let mco1 = hertz_ok(b, 47);
     let source2 = b[52] < 6;
     let mco2 = hertz_ok(b, 53);
-    let second = numbers::both(source2, mco2);
-    numbers::both(bypass, numbers::both(source1, numbers::both(mco1, second)))
+    bypass & (source1 & (mco1 & (source2 & mco2)))
 }
 
 fn plls_ok(b: &[u8], three: bool) -> bool
@@ -87,7 +79,7 @@ fn plls_ok(b: &[u8], three: bool) -> bool
     let first = pll_ok(b, 58);
     let second = pll_ok(b, 74);
     let third = third_ok(b, three);
-    numbers::both(first, numbers::both(second, third))
+    first & (second & third)
 }
 
 // The whole request.
@@ -98,5 +90,5 @@ pub fn formed(b: &[u8], three: bool) -> bool
     let clocks = clocks_ok(b);
     let outputs = outputs_ok(b);
     let plls = plls_ok(b, three);
-    numbers::both(clocks, numbers::both(outputs, plls))
+    clocks & (outputs & plls)
 }

@@ -1,21 +1,12 @@
 // The chip's numbers: judged, and taken.
 ghost use mathlib.Core.Path.{_≡_};
-ghost use mathlib.Core.Bool.{_&&_, _||_};
+ghost use mathlib.Core.Bool.{_||_};
 ghost use lib.Dec.{eqb, ltb};
 ghost use Rattle.rules.specs.Document01.Chip.{isHsidiv, scaleOf};
 ghost use Rattle.request.specs.Chips.{chipOk, oddsOk, stateOf};
 use types::Chip;
 use types::ChipState;
 use types::Scale;
-
-pub fn both(a: bool, b: bool) -> bool
-    ensures { λ r. ⌜ r ≡ (a && b) ⌝ }
-{
-    if a {
-        return b;
-    }
-    false
-}
 
 fn two_or_three(n: u32) -> bool
     ensures { λ r. ⌜ r ≡ (eqb n 2 || eqb n 3) ⌝ }
@@ -45,17 +36,17 @@ fn is_hsidiv(n: u32) -> bool
 fn odds_ok(chip: Chip) -> bool
     ensures { λ r. ⌜ r ≡ oddsOk chip ⌝ }
 {
-    both(chip.odd1 < 2, both(chip.odd2 < 2, chip.odd3 < 2))
+    (chip.odd1 < 2) & ((chip.odd2 < 2) & (chip.odd3 < 2))
 }
 
 // Whether each number is one of its codes.
 pub fn chip_ok(chip: Chip) -> bool
     ensures { λ r. ⌜ r ≡ chipOk chip ⌝ }
 {
-    let divisor = is_hsidiv(chip.hsidiv);
-    let rest = both(chip.scale < 4, both(chip.hsion < 2, divisor));
     let count = two_or_three(chip.plls);
-    both(count, both(odds_ok(chip), rest))
+    let odds = odds_ok(chip);
+    let divisor = is_hsidiv(chip.hsidiv);
+    count & (odds & ((chip.scale < 4) & ((chip.hsion < 2) & divisor)))
 }
 
 fn scale_of(n: u32) -> Scale

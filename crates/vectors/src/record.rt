@@ -1,66 +1,85 @@
-// One record: a request, its chip and the Rust's answer.
-use crate::compare;
+// One record: a request, its chip and the Rust's answer, against the planner's.
 use crate::input::byte;
+use crate::input::half;
+use crate::input::word;
+use crate::tally;
+use types::Answer;
 use types::Chip;
 use types::Planned;
 
-// The request's kind and what the Rust did, by their codes in the file; both answers as a number, 0 for a plan; and whether they are the same.
-pub struct Replayed {
-    pub kind: u8,
-    pub did: u8,
-    pub rust: u32,
-    pub planner: u32,
-    pub entries: u32,
-    pub same: bool,
+pub fn replay(fd: i32, k: u32, t: &mut [u64; 9]) {
+    let kind = byte(fd);
+    let did = byte(fd);
+    let rust = byte(fd);
+    let entries = byte(fd);
+    let x = planned(fd, byte(fd));
+    let planner = number(x);
+    if same(fd, x, did, entries) {
+        if rust == planner {
+            tally::agrees(t, did, entries);
+            return;
+        }
+    }
+    tally::differs(t, k, kind, rust, planner);
 }
 
-pub fn replay(fd: i32) -> Replayed {
-    let mut head: [u8; 12] = [0; 12];
-    io::read_full(fd, &mut head);
+fn planned(fd: i32, length: u32) -> Planned {
+    let chip = Chip {
+        plls: byte(fd),
+        odd1: byte(fd),
+        odd2: byte(fd),
+        odd3: byte(fd),
+        scale: byte(fd),
+        hsion: byte(fd),
+        hsidiv: byte(fd),
+    };
     let mut request: [u8; 128] = [0; 128];
     io::read_full(fd, &mut request);
-    let n = io::count(length(head[4]), &request);
-    let x = rcc::plan(&request[..n], chip(&head));
-    answered(fd, x, &head)
+    let n = io::count(length as isize, &request);
+    rcc::plan(&request[..n], chip)
 }
 
-fn answered(fd: i32, x: Planned, head: &[u8; 12]) -> Replayed {
-    let did = head[1];
-    let rust = byte(head[2]);
-    let entries = byte(head[3]);
-    let planner = compare::number(x);
-    Replayed {
-        kind: head[0],
-        did,
-        rust,
-        planner,
-        entries,
-        same: same(fd, x, did, entries) && rust == planner,
+// 0, or the refusal's number.
+fn number(x: Planned) -> u32 {
+    let answer = x.answer;
+    match answer {
+        Answer::Accepted => 0,
+        Answer::Refused(n) => refusal::number_of(n),
     }
 }
 
-// A plan's clocks and entries stand behind the request.
-fn same(fd: i32, x: Planned, did: u8, entries: u32) -> bool {
+// A plan's clocks and divisors, the 55 words of a report, stand behind the request, and then its entries.
+fn same(fd: i32, x: Planned, did: u32, entries: u32) -> bool {
     if did != 0 {
         return true;
     }
-    let clocks = compare::clocks(fd, x);
-    let list = compare::list(fd, x, entries);
+    let mut words = [0u32; 2304];
+    let plan = x.plan;
+    report::store(plan, &mut words);
+    let clocks = wide(fd, &words);
+    listing::store(x, &mut words);
+    let list = narrow(fd, &words, entries);
     clocks && list
 }
 
-fn length(bytes: u8) -> isize {
-    bytes as isize
+fn wide(fd: i32, words: &[u32; 2304]) -> bool {
+    let mut same = true;
+    for k in 0..55 {
+        if words[k] != word(fd) {
+            same = false;
+        }
+    }
+    same
 }
 
-fn chip(head: &[u8; 12]) -> Chip {
-    Chip {
-        plls: byte(head[5]),
-        odd1: byte(head[6]),
-        odd2: byte(head[7]),
-        odd3: byte(head[8]),
-        scale: byte(head[9]),
-        hsion: byte(head[10]),
-        hsidiv: byte(head[11]),
+// Every entry in order, and no more of them.
+fn narrow(fd: i32, words: &[u32; 2304], entries: u32) -> bool {
+    let mut same = words[0] == entries;
+    let n = (entries % 256) as usize * 9;
+    for k in 0..n {
+        if words[k + 1] != half(fd) {
+            same = false;
+        }
     }
+    same
 }

@@ -1,102 +1,46 @@
-// What was replayed, and the lines that say so.
-use crate::record::Replayed;
+// What was replayed, and the lines that say so. A tally is nine numbers: by what the Rust did, how many of its answers are the planner's, which
+// are plans, refusals, its end with a forbidden divider of P, and bytes on which it is not run; the plans' entries; how many answers differ; both
+// kinds of other refusals together; the records; and whether the file goes on behind them.
 
-// By what the Rust did, where the planner's answer is the stored one; and how many differ.
-pub struct Tally {
-    plans: u32,
-    entries: u32,
-    panics: u32,
-    ends: u32,
-    outside: u32,
-    differ: u32,
+fn add(t: &mut [u64; 9], k: u32, n: u32) {
+    let at = (k % 9) as usize;
+    t[at] = std::num::wrapping_add_u64(t[at], n as u64);
 }
 
-pub fn empty() -> Tally {
-    Tally {
-        plans: 0,
-        entries: 0,
-        panics: 0,
-        ends: 0,
-        outside: 0,
-        differ: 0,
-    }
+pub fn agrees(t: &mut [u64; 9], did: u32, entries: u32) {
+    add(t, did, 1);
+    add(t, 4, entries);
+    add(t, 6, did / 2);
 }
 
-// With record k, which is named if it differs: 0 is a plan, and another number a refusal.
-pub fn with(t: Tally, k: u32, x: Replayed) -> Tally {
-    if x.same {
-        return agreed(t, x.did, x.entries);
-    }
-    if t.differ < 10 {
-        named(b"record ", k);
-        kind(x.kind);
-        named(b" differs: the Rust ", x.rust);
-        named(b", the planner ", x.planner);
-        say(b"\n");
-    }
-    let mut u = t;
-    u.differ = sum(t.differ, 1);
-    u
-}
-
-fn kind(n: u8) {
-    match n {
-        0 => say(b", realistic,"),
-        1 => say(b", boundary,"),
-        2 => say(b", full range,"),
-        _ => say(b", damaged,"),
-    }
-}
-
-fn agreed(t: Tally, did: u8, entries: u32) -> Tally {
-    let mut u = t;
-    match did {
-        0 => {
-            u.plans = sum(t.plans, 1);
-            u.entries = sum(t.entries, entries);
-        }
-        1 => u.panics = sum(t.panics, 1),
-        2 => u.ends = sum(t.ends, 1),
-        _ => u.outside = sum(t.outside, 1),
-    }
-    u
-}
-
-// A sum that stays where it would be too large.
-fn sum(a: u32, b: u32) -> u32 {
-    if a < 1_000_000_000 {
-        if b < 1_000_000_000 {
-            return a + b;
-        }
-    }
-    a
-}
-
-pub fn show(t: Tally) {
-    let others = sum(t.ends, t.outside);
-    let agree = sum(sum(t.plans, t.panics), others);
-    named(b"", sum(agree, t.differ));
-    named(b" requests: ", t.plans);
-    named(b" plans and ", t.panics);
-    named(b" refusals as the Rust, ", others);
-    named(b" other refusals; ", t.differ);
-    named(
-        b" differ\nplans: 26 clocks, 3 divisors and all entries, together ",
-        t.entries,
+fn say(form: &[u8], numbers: &[u64]) {
+    let mut out = [0u8; 512];
+    let n = template::fill(
+        form,
+        b"realistic   boundary    full-range  damaged     ",
+        numbers,
+        &mut out,
     );
-    named(b"\nother refusals: ", t.ends);
-    named(
-        b" where the Rust ends with a forbidden divider of P (14, 15), ",
-        t.outside,
+    io::write_all(1, &out[..n]);
+}
+
+// Record k differs: its kind and both answers, 0 for a plan and another number for a refusal.
+pub fn differs(t: &mut [u64; 9], k: u32, kind: u32, rust: u32, planner: u32) {
+    add(t, 5, 1);
+    if t[5] <= 10 {
+        say(
+            b"record {0}, {1#}, differs: the Rust {2}, the planner {3}\n",
+            &[k as u64, kind as u64, rust as u64, planner as u64],
+        );
+    }
+}
+
+pub fn show(t: &[u64; 9]) {
+    say(
+        b"{7} requests: {0} plans and {1} refusals as the Rust, {6} other refusals; {5} differ\n\
+        plans: 26 clocks, 3 divisors and all entries, together {4}\n\
+        other refusals: {2} where the Rust ends with a forbidden divider of P (14, 15), {3} of damaged bytes, on which it is not run (1)\n\
+        {8?}bytes behind the last record\n",
+        t,
     );
-    say(b" of damaged bytes, on which it is not run (1)\n");
-}
-
-fn named(name: &[u8], n: u32) {
-    say(name);
-    io::print_decimal(1, n as u64);
-}
-
-pub fn say(text: &[u8]) {
-    io::write_all(1, text);
 }

@@ -1,40 +1,46 @@
--- `flash::entry` meets its contract: the table has what the steps say, by one test computed over its 1008 entries.
-use mathlib.Core.Path.{_≡_}
+-- `flash::entry` meets its contract: a row of the table begins at 252 times its scale.
+use mathlib.Core.Path.{_≡_, _∙_}
 use Prim.Native.Nat.{ℕ, _+_, _*_, _/_, _%_, _<_}
 use native.Mathlib.Omega.{arith}
-use borrow.Author.Needs.{needs}
 use Rattle.rules.specs.Document01.Flash.{atColumn}
 use Rattle.rules.specs.Document01.Chip.{scaleOf}
-use Rattle.flash.specs.Flash.{packed}
-use Rattle.flash.proofs.Table.{at-place}
+use Rattle.flash.specs.Flash.{packed, placed}
 use Rattle.flash.proofs.entry.Statement.{statement}
 use Rattle.flash.proofs.entry.Tie as tie
 
--- what the steps say of a place of the table. `rw` finds the list in the goal and computes the test
-placed : ℕ → ℕ
-placed i = packed (atColumn (scaleOf (i / 252)) (i % 252))
+at-row : (s k i : ℕ) → i ≡ 252 * s + k → k < 252 → placed i ≡ packed (atColumn (scaleOf s) k)
+unfolding placed
+at-row s k i e h =
+    let row : i / 252 ≡ s = omega arith in
+    let column : i % 252 ≡ k = omega arith in
+    rw (row, column)
 
-mul-i : tie.Need-mul-i
-mul-i c = search needs
+cast-k : tie.Need-cast-k
+cast-k c = omega arith
 
-add-i : tie.Need-add-i
-add-i c = search needs
+at-requires : tie.Need-at-requires
+at-requires c κs = omega arith
 
-cast-i : tie.Need-cast-i
-cast-i c = search needs
+at-requires-2 : tie.Need-at-requires-2
+at-requires-2 c κs = omega arith
 
-array-read-result : tie.Need-array-read-result
-array-read-result c = search needs
+at-requires-3 : tie.Need-at-requires-3
+at-requires-3 c κs = omega arith
+
+at-requires-4 : tie.Need-at-requires-4
+at-requires-4 c κs = omega arith
 
 returns : tie.Need-returns
-unfolding atColumn placed
-returns c =
-    let s = c .args .scale in
-    let k = c .args .column in
-    let row : (s * 252 + k) / 252 ≡ s = omega arith in
-    let column : (s * 252 + k) % 252 ≡ k = omega arith in
-    let h : s * 252 + k < 1008 = omega arith in
-    rw (at-place placed 1008, row, column)
+returns c = let a = c .before .before .args in c .at .ensures ∙ at-row (a .scale) (a .column) (0 + a .column) (omega arith) (omega arith)
+
+returns-2 : tie.Need-returns-2
+returns-2 c = let a = c .before .before .args in c .at2 .ensures ∙ at-row (a .scale) (a .column) (252 + a .column) (omega arith) (omega arith)
+
+returns-3 : tie.Need-returns-3
+returns-3 c = let a = c .before .before .args in c .at3 .ensures ∙ at-row (a .scale) (a .column) (504 + a .column) (omega arith) (omega arith)
+
+returns-4 : tie.Need-returns-4
+returns-4 c = let a = c .before .before .args in c .at4 .ensures ∙ at-row (a .scale) (a .column) (756 + a .column) (omega arith) (omega arith)
 
 pub entry-spec : {M : Type 1} → statement M
-entry-spec = tie.close (tie.spec mul-i add-i cast-i array-read-result returns)
+entry-spec = tie.close (tie.spec cast-k at-requires at-requires-2 at-requires-3 at-requires-4 returns returns-2 returns-3 returns-4)

@@ -1,7 +1,7 @@
 use Rattle.pll.proofs.Divided.{starts, searched, outside, no-m, settles, rest}
 use Rattle.pll.specs.Settle.{settledFor}
 use Rattle.pll.specs.Spans.{requestOf}
-use Rattle.pll.specs.Search.{numberOf}
+use Rattle.pll.specs.Search.{lowOf, highOf, numberOf}
 use Rattle.pll.specs.Answer.{pllAnswer}
 use Rattle.pll.specs.declared.vco.VcoRange.{VcoRange}
 use Rattle.rules.specs.Document01.OnePll.{rangeOf, running}
@@ -33,7 +33,7 @@ m-is c =
     let a = c .before .before .before .before .before .args in
     let r = c .before .before .before .before .range-of in
     c .search-m .ensures
-    ∙ ap (λ (x : VcoRange). numberOf (chosenM (a .source) (c .before .before .before .target-of .result) (x .low) (x .high))) (r .ensures)
+    ∙ ap (λ (x : VcoRange). numberOf (chosenM (a .source) (c .before .before .before .target-of .result) (lowOf (x .medium)) (highOf (x .medium)))) (r .ensures)
     ∙ ap (λ (x : ℕ). numberOf (chosenM (a .source) x (rangeOf (a .most) .low) (rangeOf (a .most) .high))) (target-is (c .before .before .before))
 
 -- the target is not below the range
@@ -54,12 +54,9 @@ returns c = let s = ap (λ (x : VcoRange). x .start) (c .before .before .before 
     outside _ _ _ _ _ _ _ _ (c .before .before .before .before .pre) (omega arith)
 
 search-m-requires : tie.Need-search-m-requires
-search-m-requires c κs = let r = c .before .before .before .range-of .ensures in
-    let low = ap (λ (x : VcoRange). x .low) r in
-    let high = ap (λ (x : VcoRange). x .high) r in
-    let t = target-is (c .before .before) in
+search-m-requires c κs = let t = target-is (c .before .before) in
     let k = searched _ _ _ _ _ _ _ _ (c .before .before .before .before .pre) in
-    (k .0, omega arith, omega arith, omega arith)
+    (k .0, omega arith)
 
 returns-2 : tie.Need-returns-2
 returns-2 c = no-m _ _ _ _ _ _ _ _ (c .before .before .before .before .before .before .pre) (from-start (c .before .before)) (sym (m-is (c .before)) ∙ c .if2 .taken)

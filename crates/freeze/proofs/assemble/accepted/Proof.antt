@@ -1,14 +1,11 @@
 -- `freeze::assemble::accepted` meets its contract.
 use Rattle.rules.specs.Document01.Plan.{planWith}
-use mathlib.Core.Path.{_∙_, ap}
+use mathlib.Core.Path.{_∙_, ap, refl}
 use Rattle.freeze.specs.Freeze.{buses, mcos, chosen}
 use Rattle.freeze.proofs.Parts.{equal}
 use borrow.Author.Needs.{needs}
 use Rattle.freeze.proofs.assemble.accepted.Statement.{statement}
 use Rattle.freeze.proofs.assemble.accepted.Tie as tie
-
-plan-plls-requires : tie.Need-plan-plls-requires
-plan-plls-requires c κs = search needs
 
 chosen-requires : tie.Need-chosen-requires
 chosen-requires c κs = search needs
@@ -16,9 +13,9 @@ chosen-requires c κs = search needs
 returns : tie.Need-returns
 unfolding planWith
 returns c =
-    let s = c .before .before .before .before in
+    let s = c .before .before .before in
     let a = s .args in
-    equal (a .q) (a .c) (buses (a .b)) (mcos (a .m)) (s .pre .1) (c .before .plan-plls .ensures) (c .chosen .ensures ∙ ap (λ x. chosen (a .q) (a .c) x (a .b .ahb .clock) (a .b .apb1 .pre) (a .b .apb2 .pre)) (s .pre .0))
+    equal (a .q) (a .c) (buses (a .b)) (mcos (a .m)) (s .pre .1) refl (c .chosen .ensures ∙ ap (λ x. chosen (a .q) (a .c) x (a .b .ahb .clock) (a .b .apb1 .pre) (a .b .apb2 .pre)) (s .pre .0))
 
 pub accepted-spec : {M : Type 1} → statement M
-accepted-spec = tie.close (tie.spec plan-plls-requires chosen-requires returns)
+accepted-spec = tie.close (tie.spec chosen-requires returns)

@@ -12,14 +12,8 @@ three-ok-requires-2 c κs = search needs
 three-ok-requires-3 : tie.Need-three-ok-requires-3
 three-ok-requires-3 c κs = search needs
 
-both-requires : tie.Need-both-requires
-both-requires c κs = search needs
-
-both-requires-2 : tie.Need-both-requires-2
-both-requires-2 c κs = search needs
-
 returns : tie.Need-returns
-returns c = rw (c .both2 .ensures, c .before .both .ensures, c .before .before .three-ok3 .ensures, c .before .before .before .three-ok2 .ensures, c .before .before .before .before .three-ok .ensures)
+returns c = rw (c .three-ok3 .ensures, c .before .three-ok2 .ensures, c .before .before .three-ok .ensures)
 
 pub clocks-ok-spec : {M : Type 1} → statement M
 clocks-ok-spec =
@@ -28,6 +22,4 @@ clocks-ok-spec =
     three-ok-requires
     three-ok-requires-2
     three-ok-requires-3
-    both-requires
-    both-requires-2
     returns)

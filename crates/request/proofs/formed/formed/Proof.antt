@@ -13,15 +13,9 @@ outputs-ok-requires c κs = search needs
 plls-ok-requires : tie.Need-plls-ok-requires
 plls-ok-requires c κs = search needs
 
-both-requires : tie.Need-both-requires
-both-requires c κs = search needs
-
-both-requires-2 : tie.Need-both-requires-2
-both-requires-2 c κs = search needs
-
 returns : tie.Need-returns
 unfolding formed
-returns c = rw (c .both2 .ensures, c .before .both .ensures, c .before .before .plls-ok .ensures, c .before .before .before .outputs-ok .ensures, c .before .before .before .before .clocks-ok .ensures)
+returns c = rw (c .plls-ok .ensures, c .before .outputs-ok .ensures, c .before .before .clocks-ok .ensures)
 
 pub formed-spec : {M : Type 1} → statement M
 formed-spec =
@@ -30,6 +24,4 @@ formed-spec =
     clocks-ok-requires
     outputs-ok-requires
     plls-ok-requires
-    both-requires
-    both-requires-2
     returns)

@@ -18,20 +18,8 @@ shared-slice-read-source2 c = search needs
 hertz-ok-requires-2 : tie.Need-hertz-ok-requires-2
 hertz-ok-requires-2 c κs = search needs
 
-both-requires : tie.Need-both-requires
-both-requires c κs = search needs
-
-both-requires-2 : tie.Need-both-requires-2
-both-requires-2 c κs = search needs
-
-both-requires-3 : tie.Need-both-requires-3
-both-requires-3 c κs = search needs
-
-both-requires-4 : tie.Need-both-requires-4
-both-requires-4 c κs = search needs
-
 returns : tie.Need-returns
-returns c = rw (c .both4 .ensures, c .before .both3 .ensures, c .before .before .both2 .ensures, c .before .before .before .both .ensures, c .before .before .before .before .hertz-ok2 .ensures, c .before .before .before .before .before .before .hertz-ok .ensures)
+returns c = rw (c .hertz-ok2 .ensures, c .before .before .hertz-ok .ensures)
 
 pub outputs-ok-spec : {M : Type 1} → statement M
 outputs-ok-spec =
@@ -42,8 +30,4 @@ outputs-ok-spec =
     hertz-ok-requires
     shared-slice-read-source2
     hertz-ok-requires-2
-    both-requires
-    both-requires-2
-    both-requires-3
-    both-requires-4
     returns)

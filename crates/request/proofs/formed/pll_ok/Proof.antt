@@ -12,13 +12,10 @@ add-three-ok c = search needs
 three-ok-requires : tie.Need-three-ok-requires
 three-ok-requires c κs = search needs
 
-both-requires : tie.Need-both-requires
-both-requires c κs = search needs
-
 returns : tie.Need-returns
-returns c = rw (c .both .ensures, c .before .three-ok .ensures)
+returns c = rw (c .three-ok .ensures)
 
 pub pll-ok-spec : {M : Type 1} → statement M
 pll-ok-spec =
     tie.close
-    (tie.spec shared-slice-read-strategy add-three-ok three-ok-requires both-requires returns)
+    (tie.spec shared-slice-read-strategy add-three-ok three-ok-requires returns)

@@ -12,14 +12,8 @@ pll-ok-requires-2 c κs = search needs
 third-ok-requires : tie.Need-third-ok-requires
 third-ok-requires c κs = search needs
 
-both-requires : tie.Need-both-requires
-both-requires c κs = search needs
-
-both-requires-2 : tie.Need-both-requires-2
-both-requires-2 c κs = search needs
-
 returns : tie.Need-returns
-returns c = rw (c .both2 .ensures, c .before .both .ensures, c .before .before .third-ok .ensures, c .before .before .before .pll-ok2 .ensures, c .before .before .before .before .pll-ok .ensures)
+returns c = rw (c .third-ok .ensures, c .before .pll-ok2 .ensures, c .before .before .pll-ok .ensures)
 
 pub plls-ok-spec : {M : Type 1} → statement M
 plls-ok-spec =
@@ -28,6 +22,4 @@ plls-ok-spec =
     pll-ok-requires
     pll-ok-requires-2
     third-ok-requires
-    both-requires
-    both-requires-2
     returns)

@@ -18,14 +18,8 @@ add-hertz-ok-2 c = search needs
 hertz-ok-requires-3 : tie.Need-hertz-ok-requires-3
 hertz-ok-requires-3 c κs = search needs
 
-both-requires : tie.Need-both-requires
-both-requires c κs = search needs
-
-both-requires-2 : tie.Need-both-requires-2
-both-requires-2 c κs = search needs
-
 returns : tie.Need-returns
-returns c = rw (c .both2 .ensures, c .before .both .ensures, c .before .before .hertz-ok3 .ensures, c .before .before .before .hertz-ok2 .ensures, c .before .before .before .before .hertz-ok .ensures)
+returns c = rw (c .hertz-ok3 .ensures, c .before .hertz-ok2 .ensures, c .before .before .hertz-ok .ensures)
 
 pub three-ok-spec : {M : Type 1} → statement M
 three-ok-spec =
@@ -36,6 +30,4 @@ three-ok-spec =
     hertz-ok-requires-2
     add-hertz-ok-2
     hertz-ok-requires-3
-    both-requires
-    both-requires-2
     returns)

@@ -1,0 +1,4 @@
+pub mod Taking
+pub mod Pairs
+pub mod Keys
+pub mod Sheets

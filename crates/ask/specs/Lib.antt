@@ -1,0 +1,4 @@
+pub mod Table
+pub mod Words
+pub mod Sheet
+pub mod All

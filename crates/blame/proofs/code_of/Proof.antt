@@ -1,0 +1,22 @@
+-- `blame::code_of` meets its contract.
+use borrow.Author.Needs.{needs}
+use Rattle.blame.proofs.code_of.Statement.{statement}
+use Rattle.blame.proofs.code_of.Tie as tie
+
+enum-told : tie.Need-enum-told
+enum-told c = search needs
+
+enum-known-a : tie.Need-enum-known-a
+enum-known-a c = search needs
+
+number-of-requires : tie.Need-number-of-requires
+number-of-requires c κs = search needs
+
+returns : tie.Need-returns
+returns c = search needs
+
+returns-2 : tie.Need-returns-2
+returns-2 c = rw (c .before .before .a .given .1) (c .number-of .ensures)
+
+pub code-of-spec : {M : Type 1} → statement M
+code-of-spec = tie.close (tie.spec enum-told enum-known-a number-of-requires returns returns-2)

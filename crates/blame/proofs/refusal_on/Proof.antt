@@ -1,0 +1,45 @@
+-- `blame::refusal_on` meets its contract.
+use mathlib.Core.Path.{ap, _∙_}
+use denote.Ref.{now}
+use native.Mathlib.Omega.{arith}
+use borrow.Author.Needs.{needs}
+use Rattle.blame.proofs.Tried.{cut-at, cut-length}
+use Rattle.blame.specs.Blame.{codeOf, refusalOn}
+use Rattle.rules.specs.Document01.Plan.{planOf}
+use Rattle.types.specs.declared.Planned.{Planned}
+use Rattle.blame.proofs.refusal_on.Statement.{statement}
+use Rattle.blame.proofs.refusal_on.Tie as tie
+
+request-length-requires : tie.Need-request-length-requires
+request-length-requires c κs = search needs
+
+within-requires : tie.Need-within-requires
+within-requires c κs = search needs
+
+slice-aggregate-plan : tie.Need-slice-aggregate-plan
+slice-aggregate-plan c = cut-length (now (c .before .before .before .before .args .sheet)) (c .before .within .result) (let e = c .before .within .ensures in omega arith)
+
+chip-requires : tie.Need-chip-requires
+chip-requires c κs = search needs
+
+plan-requires : tie.Need-plan-requires
+plan-requires c κs = search needs
+
+code-of-requires : tie.Need-code-of-requires
+code-of-requires c κs = search needs
+
+returns : tie.Need-returns
+unfolding refusalOn
+returns c = let s = now (c .before .before .before .before .before .before .before .args .sheet) in c .code-of .ensures ∙ ap (λ (x : Planned). codeOf (x .answer)) (c .before .plan .ensures .0) ∙ rw (c .before .before .before .before .within .ensures, cut-at s (c .before .before .before .before .before .request-length .result), c .before .before .before .before .before .request-length .ensures, c .before .before .chip .ensures)
+
+pub refusal-on-spec : {M : Type 1} → statement M
+refusal-on-spec =
+    tie.close
+    (tie.spec
+    request-length-requires
+    within-requires
+    slice-aggregate-plan
+    chip-requires
+    plan-requires
+    code-of-requires
+    returns)

@@ -1,0 +1,22 @@
+-- `exact::buses::ahb` meets its contract.
+use denote.Ref.{now}
+use Rattle.rules.specs.Manual.Tree.{sysOf, ahbOf}
+use Rattle.exact.specs.Exact.{fedBy}
+use borrow.Author.Needs.{needs}
+use Rattle.exact.proofs.buses.ahb.Statement.{statement}
+use Rattle.exact.proofs.buses.ahb.Tie as tie
+
+sys-requires : tie.Need-sys-requires
+sys-requires c κs = search needs
+
+divided-requires : tie.Need-divided-requires
+divided-requires c κs = search needs
+
+returns : tie.Need-returns
+unfolding ahbOf
+returns c =
+    let a = c .before .before .before .args in
+    c .divided .ensures (sysOf (now (a .bank)) (fedBy (a .fed))) (c .before .sys .ensures)
+
+pub ahb-spec : {M : Type 1} → statement M
+ahb-spec = tie.close (tie.spec sys-requires divided-requires returns)

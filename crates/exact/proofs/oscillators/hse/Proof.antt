@@ -1,0 +1,31 @@
+-- `exact::oscillators::hse` meets its contract.
+use denote.Ref.{now}
+use Rattle.rules.specs.Manual.Tree.{word, hseOf}
+use Rattle.exact.proofs.Chains.{never-runs}
+use borrow.Author.Needs.{needs}
+use Rattle.exact.proofs.oscillators.hse.Statement.{statement}
+use Rattle.exact.proofs.oscillators.hse.Tie as tie
+
+enum-told : tie.Need-enum-told
+enum-told c = search needs
+
+enum-known-fed : tie.Need-enum-known-fed
+enum-known-fed c = search needs
+
+cast-fixed : tie.Need-cast-fixed
+cast-fixed c = search needs
+
+fixed-requires : tie.Need-fixed-requires
+fixed-requires c κs = search needs
+
+returns : tie.Need-returns
+unfolding hseOf
+returns c = rw (c .enum-told .given .1) (never-runs (word (now (c .before .before .before .args .bank)) 58))
+
+returns-2 : tie.Need-returns-2
+unfolding hseOf
+returns-2 c = rw (c .before .before .fed .given .1) (c .fixed .ensures)
+
+pub hse-spec : {M : Type 1} → statement M
+hse-spec =
+    tie.close (tie.spec enum-told enum-known-fed cast-fixed fixed-requires returns returns-2)

@@ -1,0 +1,85 @@
+-- `exact::pll::output` meets its contract.
+use mathlib.Core.Path.{_≡_, refl}
+use denote.Ref.{now}
+use Prim.Native.Nat.{_+_}
+use native.Mathlib.Omega.{arith}
+use Rattle.rules.specs.Manual.Tree.{Output, P, Q, R, divider, enable, vcoOf, outputOf}
+use Rattle.exact.specs.Exact.{fedBy}
+use Rattle.exact.proofs.Chains.{gated-on}
+use borrow.Author.Needs.{needs}
+use Rattle.exact.proofs.pll.output.Statement.{statement}
+use Rattle.exact.proofs.pll.output.Tie as tie
+
+-- an enable stands after its divider
+after : (o : Output) → divider o + 1 ≡ enable o
+after P = refl
+after Q = refl
+after R = refl
+
+pll-word-requires : tie.Need-pll-word-requires
+pll-word-requires c κs = search needs
+
+returns : tie.Need-returns
+unfolding outputOf
+returns c j o e d = rw (← c .before .pll-word .ensures j e, c .if1 .taken)
+
+add-pll-word : tie.Need-add-pll-word
+add-pll-word c = search needs
+
+pll-word-requires-2 : tie.Need-pll-word-requires-2
+pll-word-requires-2 c κs = search needs
+
+returns-2 : tie.Need-returns-2
+unfolding outputOf
+returns-2 c j o e d =
+    let on = c .before .before .before .pll-word in
+    rw (← after o, d, ← on .ensures j e, ← c .before .pll-word2 .ensures j e, ← gated-on (on .result) _ (omega (arith, c .before .before .if1 .left)), c .if2 .taken)
+
+pll-word-requires-3 : tie.Need-pll-word-requires-3
+pll-word-requires-3 c κs = search needs
+
+vco-requires : tie.Need-vco-requires
+vco-requires c κs = search needs
+
+cast-over : tie.Need-cast-over
+cast-over c = search needs
+
+add-over : tie.Need-add-over
+add-over c = search needs
+
+over-requires : tie.Need-over-requires
+over-requires c κs = search needs
+
+returns-3 : tie.Need-returns-3
+unfolding outputOf
+returns-3 c j o e d =
+    let w = c .before .before in
+    let a = w .before .before .before .before .before .before .args in
+    let on = w .before .before .before .before .pll-word in
+    let enable = w .before .before .pll-word2 in
+    rw (
+      ← after o,
+      d,
+      ← on .ensures j e,
+      ← enable .ensures j e,
+      ← w .pll-word3 .ensures j e,
+      ← gated-on (on .result) _ (omega (arith, w .before .before .before .if1 .left)),
+      ← gated-on (enable .result) _ (omega (arith, w .before .if2 .left)),
+    )
+    (c .over .ensures (vcoOf (now (a .bank)) (fedBy (a .fed)) j) (c .before .vco .ensures j e))
+
+pub output-spec : {M : Type 1} → statement M
+output-spec =
+    tie.close
+    (tie.spec
+    pll-word-requires
+    returns
+    add-pll-word
+    pll-word-requires-2
+    returns-2
+    pll-word-requires-3
+    vco-requires
+    cast-over
+    add-over
+    over-requires
+    returns-3)

@@ -1,0 +1,76 @@
+-- `plan::list::all_words` meets its contract.
+use mathlib.Core.Path.{_≡_}
+use Prim.Native.Nat.{_≤_, _-_}
+use lib.ListN.{length}
+use borrow.Author.Needs.{needs}
+use Rattle.plan.proofs.list.all_words.Statement.{statement}
+use Rattle.plan.proofs.list.all_words.Tie as tie
+
+abbrev Inv-loop : tie.InvT-loop
+Inv-loop bank f₀ t4 t5 f = f ≤ 82
+
+abbrev μ-loop : tie.MeasureT-loop
+μ-loop bank f₀ t4 t5 f = 82 - f
+
+loop-holds : tie.Need-loop-holds Inv-loop μ-loop
+loop-holds c = search needs
+
+slice-aggregate-fields : tie.Need-slice-aggregate-fields Inv-loop μ-loop
+slice-aggregate-fields c = search needs
+
+add-t13 : tie.Need-add-t13 Inv-loop μ-loop
+add-t13 c = search needs
+
+mul-wide : tie.Need-mul-wide Inv-loop μ-loop
+mul-wide c = search needs
+
+array-read-wide : tie.Need-array-read-wide Inv-loop μ-loop
+array-read-wide c = search needs
+
+wide-requires : tie.Need-wide-requires Inv-loop μ-loop
+wide-requires c κs = search needs
+
+slice-aggregate-fields-2 : tie.Need-slice-aggregate-fields-2 Inv-loop μ-loop
+slice-aggregate-fields-2 c = search needs
+
+fields-requires : tie.Need-fields-requires Inv-loop μ-loop
+fields-requires c κs = search needs
+
+add-f : tie.Need-add-f Inv-loop μ-loop
+add-f c = search needs
+
+loop-less : tie.Need-loop-less Inv-loop μ-loop
+loop-less c = search needs
+
+loop-again : tie.Need-loop-again Inv-loop μ-loop
+loop-again c = search needs
+
+slice-aggregate-say : tie.Need-slice-aggregate-say Inv-loop μ-loop
+slice-aggregate-say c = search needs
+
+say-requires : tie.Need-say-requires Inv-loop μ-loop
+say-requires c κs = search needs
+
+returns : tie.Need-returns Inv-loop μ-loop
+returns c = search needs
+
+pub all-words-spec : {M : Type 1} → statement M
+all-words-spec =
+    tie.close
+    (tie.spec
+    Inv-loop
+    μ-loop
+    loop-holds
+    slice-aggregate-fields
+    add-t13
+    mul-wide
+    array-read-wide
+    wide-requires
+    slice-aggregate-fields-2
+    fields-requires
+    add-f
+    loop-less
+    loop-again
+    slice-aggregate-say
+    say-requires
+    returns)

@@ -1,0 +1,34 @@
+-- `plan::print::line` meets its contract.
+use borrow.Author.Needs.{needs}
+use Rattle.blame.proofs.Tried.{cut-length}
+use Rattle.plan.proofs.print.line.Statement.{statement}
+use Rattle.plan.proofs.print.line.Tie as tie
+
+slice-aggregate-fill : tie.Need-slice-aggregate-fill
+slice-aggregate-fill c = search needs
+
+fill-requires : tie.Need-fill-requires
+fill-requires c κs = search needs
+
+array-share-prefix-out : tie.Need-array-share-prefix-out
+array-share-prefix-out c = search needs
+
+slice-aggregate-write-all : tie.Need-slice-aggregate-write-all
+slice-aggregate-write-all c = cut-length _ (c .before .before .fill .result) (search needs)
+
+write-all-requires : tie.Need-write-all-requires
+write-all-requires c κs = search needs
+
+returns : tie.Need-returns
+returns c = search needs
+
+pub line-spec : {M : Type 1} → statement M
+line-spec =
+    tie.close
+    (tie.spec
+    slice-aggregate-fill
+    fill-requires
+    array-share-prefix-out
+    slice-aggregate-write-all
+    write-all-requires
+    returns)

@@ -1,0 +1,129 @@
+// A sheet planned, and its plan: every reported clock, the PLLs, the wait states.
+ghost use Prim.Native.Nat.{_≤_};
+use crate::help;
+use crate::list;
+use crate::print;
+use crate::print::wide;
+use crate::refused;
+use types::Answer;
+use types::Hertz;
+use types::Plan;
+use types::Planned;
+use types::Pll;
+
+// How many bytes of a sheet are the request.
+pub fn request_length(sheet: &[u8]) -> usize
+    ensures { λ r. ⌜ r ≤ 115 ⌝ }
+{
+    let asked = sheet::request_length(sheet);
+    if asked < 115 {
+        return asked;
+    }
+    115
+}
+
+// A bank at reset values.
+fn reset_bank() -> [u32; 82] {
+    let mut bank: [u32; 82] = [0; 82];
+    bank[61] = 1;
+    bank[62] = 1;
+    bank[63] = 1;
+    bank[64] = 1;
+    bank[76] = 1;
+    bank[77] = 2;
+    bank
+}
+
+fn clocks(report: &[u32], bank: &[u32], hse: Hertz) {
+    print::say(b"clock            hertz  from\n");
+    for k in 0..26 {
+        let numbers = view::clock_line(report, bank, hse, k);
+        if numbers[1] != 0 {
+            print::clocks(
+                b"{0|}{10:2}{4?}  {3#}{.}{5?} / {5}{.}{6?}  exact {7}{.}{8?} {8}/{9}{.}{10?}  not started{.}\n",
+                &numbers,
+            );
+        }
+    }
+}
+
+fn pll(number: u64, x: Pll, src: u32) {
+    let mut w: [u32; 18] = [0; 18];
+    pll_words::store(x, &mut w);
+    let from = if src == 3 { 12 } else { 8 };
+    if w[2] != 0 {
+        print::clocks(
+            b"pll{0}        {1#} / {2} = {3}, x {4}{5?} + {6}/8192{.}, VCO {7}, {8#}\n",
+            &[
+                number,
+                from,
+                wide(w[2]),
+                wide(w[3]),
+                wide(w[5]),
+                wide(w[6]),
+                wide(w[7]),
+                wide(w[8]),
+                wide(w[0]) + 30,
+            ],
+        );
+    }
+}
+
+fn plan(x: Planned, bank: [u32; 82]) {
+    let p = x.plan;
+    let hse = p.hse;
+    let mut words: [u32; 55] = [0; 55];
+    report::store(p, &mut words);
+    clocks(&words, &bank, hse);
+    let plls = p.plls;
+    let one = plls[0];
+    let two = plls[1];
+    let three = plls[2];
+    let pll1 = one.pll;
+    let pll2 = two.pll;
+    let pll3 = three.pll;
+    pll(1, pll1, p.src);
+    pll(2, pll2, p.src);
+    pll(3, pll3, p.src);
+    print::clocks(
+        b"flash       latency {0}, delay {1}\nentries     {2}\n",
+        &[
+            wide(p.latency),
+            wide(p.delay),
+            entries::entry_count(x) as u64,
+        ],
+    );
+}
+
+// What the planner answers to a sheet, in a bank at reset values.
+fn ask_planner(sheet: [u8; 115], bank: &mut [u32]) -> Planned {
+    let n = request_length(&sheet);
+    let chip = sheet::chip(&sheet);
+    rcc::plan_bank(&sheet[..n], chip, bank)
+}
+
+// The plan, or the refusal with its page; then what else is asked for.
+pub fn show(sheet: [u8; 115]) {
+    let mut bank = reset_bank();
+    let x = ask_planner(sheet, &mut bank);
+    let a = x.answer;
+    match a {
+        Answer::Accepted => plan(x, bank),
+        Answer::Refused(m) => {
+            refused::show(sheet, refusal::number_of(m));
+            help::page(refusal::number_of(m));
+        }
+    }
+    list::show(x, bank, sheet);
+}
+
+// The plan, or the refusal without its page.
+pub fn short(sheet: [u8; 115]) {
+    let mut bank = reset_bank();
+    let x = ask_planner(sheet, &mut bank);
+    let a = x.answer;
+    match a {
+        Answer::Accepted => plan(x, bank),
+        Answer::Refused(m) => refused::show(sheet, refusal::number_of(m)),
+    }
+}

@@ -1,0 +1,49 @@
+-- `sheet::no_pll3` meets its contract.
+use Prim.Native.Nat.{_-_}
+use mathlib.Core.Path.{sym, _∙_}
+use Rattle.sheet.proofs.Zeros.{Zeros, begins, no-zero, goes-on, ends}
+use denote.Ref.{now}
+use borrow.Author.Needs.{needs}
+use Rattle.sheet.proofs.no_pll3.Statement.{statement}
+use Rattle.sheet.proofs.no_pll3.Tie as tie
+
+abbrev Inv-loop : tie.InvT-loop
+Inv-loop sheet i₀ i = Zeros sheet i
+
+abbrev μ-loop : tie.MeasureT-loop
+μ-loop sheet i₀ i = 106 - i
+
+loop-holds : tie.Need-loop-holds Inv-loop μ-loop
+loop-holds c = begins (now (c .before .args .sheet))
+
+byte-at-requires : tie.Need-byte-at-requires Inv-loop μ-loop
+byte-at-requires c κs = tt
+
+returns : tie.Need-returns Inv-loop μ-loop
+returns c = no-zero _ (c .before .before .before .loop .i) (c .before .before .before .loop .inv) (c .before .before .loop-test .taken) (λ e. c .if1 .taken (c .before .byte-at .ensures ∙ e))
+
+add-i : tie.Need-add-i Inv-loop μ-loop
+add-i c = search needs
+
+loop-less : tie.Need-loop-less Inv-loop μ-loop
+loop-less c = search needs
+
+loop-again : tie.Need-loop-again Inv-loop μ-loop
+loop-again c = goes-on _ (c .before .before .before .loop .i) (c .before .before .before .loop .inv) (c .before .before .loop-test .taken) (sym (c .before .byte-at .ensures) ∙ c .if1 .left)
+
+returns-2 : tie.Need-returns-2 Inv-loop μ-loop
+returns-2 c = ends _ (c .before .loop .i) (c .before .loop .inv) (c .loop-test .left)
+
+pub no-pll3-spec : {M : Type 1} → statement M
+no-pll3-spec =
+    tie.close
+    (tie.spec
+    Inv-loop
+    μ-loop
+    loop-holds
+    byte-at-requires
+    returns
+    add-i
+    loop-less
+    loop-again
+    returns-2)

@@ -1,0 +1,5 @@
+pub mod Parts
+pub mod Stores
+pub mod Least
+pub mod Named
+pub mod Digits

@@ -1,0 +1,56 @@
+-- `text::hertz` meets its contract.
+use mathlib.Core.Path.{sym, _∙_}
+use native.Mathlib.Omega.{arith}
+use Prim.Native.Nat.{_-_}
+use lib.ListN.{length, getD}
+use lib.Seq.{length-take-le}
+use Rattle.text.proofs.Digits.{unit-at-most, no-unit, in-unit, nothing}
+use denote.Ref.{now}
+use borrow.Author.Needs.{needs}
+use Rattle.text.proofs.hertz.Statement.{statement}
+use Rattle.text.proofs.hertz.Tie as tie
+
+pointed-requires : tie.Need-pointed-requires
+pointed-requires c κs = search needs
+
+returns : tie.Need-returns
+returns c = nothing (now (c .before .before .before .args .s)) (c .before .if1 .taken) (c .pointed .ensures)
+
+sub-last : tie.Need-sub-last
+sub-last c = search needs
+
+shared-slice-read-unit-of : tie.Need-shared-slice-read-unit-of
+shared-slice-read-unit-of c = search needs
+
+unit-of-requires : tie.Need-unit-of-requires
+unit-of-requires c κs = search needs
+
+pointed-requires-2 : tie.Need-pointed-requires-2
+pointed-requires-2 c κs = search needs
+
+returns-2 : tie.Need-returns-2
+returns-2 c = no-unit (now (c .before .before .before .before .before .before .args .s)) (sym (c .before .before .unit-of .ensures) ∙ c .before .if2 .taken) (c .pointed2 .ensures)
+
+slice-aggregate-pointed : tie.Need-slice-aggregate-pointed
+slice-aggregate-pointed c = sym (length-take-le _ (now (c .before .before .before .before .before .before .args .s)) (omega arith))
+
+pointed-requires-3 : tie.Need-pointed-requires-3
+pointed-requires-3 c κs = rw (c .before .before .unit-of .ensures) (unit-at-most (getD (now (c .before .before .before .before .before .before .args .s)) (length (now (c .before .before .before .before .before .before .args .s)) - 1) 0))
+
+returns-3 : tie.Need-returns-3
+returns-3 c = in-unit (now (c .before .before .before .before .before .before .before .args .s)) (λ e. c .before .before .if2 .left (c .before .before .before .unit-of .ensures ∙ e)) (rw (c .before .before .before .unit-of .ensures) at (c .pointed3 .ensures))
+
+pub hertz-spec : {M : Type 1} → statement M
+hertz-spec =
+    tie.close
+    (tie.spec
+    pointed-requires
+    returns
+    sub-last
+    shared-slice-read-unit-of
+    unit-of-requires
+    pointed-requires-2
+    returns-2
+    slice-aggregate-pointed
+    pointed-requires-3
+    returns-3)

@@ -1,0 +1,83 @@
+-- A clock of a plan as the numbers of one line: docs/CODES.md, The page of a plan.
+use mathlib.Core.Bool.{Bool, cond, not, _&&_}
+use mathlib.Core.List.{List, [], _∷_}
+use Prim.Native.Nat.{ℕ, zero, suc, _+_, _-_, _*_, _/_, _%_}
+use lib.Dec.{ltb, leb, eqb}
+use lib.ListN.{getD, replicate}
+use Rattle.types.specs.declared.Hertz.{Hertz}
+use Rattle.rules.specs.Document01.Fields
+use Rattle.exact.specs.Exact.{fedBy, pathBy, readingOf}
+use Rattle.exact.specs.declared.Reading.{Reading}
+use Rattle.exact.specs.declared.Reading.the-variants.{Nothing, Exactly}
+
+-- a word of a report or a bank
+abbrev pub wordAt : List ℕ → ℕ → ℕ
+wordAt b f = getD b f 0
+
+-- ---- where a clock comes from: the number of a clock, 26 to 28 for the VCOs, 29 for nothing
+-- SW: HSI, CSI, HSE, PLL1 P (document 01, The clock tree)
+abbrev pub swClock : ℕ → ℕ
+swClock c = getD (8 ∷ 9 ∷ 12 ∷ 17 ∷ []) c 29
+
+-- CKPERSEL: HSI, CSI, HSE
+abbrev pub perClock : ℕ → ℕ
+perClock c = getD (8 ∷ 9 ∷ 12 ∷ []) c 29
+
+-- MCO1SEL: HSI, LSE, HSE, PLL1 Q, HSI48
+abbrev pub mco1Clock : ℕ → ℕ
+mco1Clock c = getD (8 ∷ 13 ∷ 12 ∷ 18 ∷ 10 ∷ []) c 29
+
+-- MCO2SEL: system, PLL2 P, HSE, PLL1 P, CSI, LSI
+abbrev pub mco2Clock : ℕ → ℕ
+mco2Clock c = getD (0 ∷ 20 ∷ 12 ∷ 17 ∷ 9 ∷ 11 ∷ []) c 29
+
+-- the system clock by SW; AHB from it; the APBs and the timers from AHB; the peripheral clock and the clock outputs by their selectors;
+-- three outputs from each VCO
+unfoldable pub fromOf : (bank : List ℕ) → (k : ℕ) → ℕ
+fromOf b k =
+    cond (eqb k 0) (swClock (wordAt b Fields.SW))
+    (cond (eqb k 1) 0
+    (cond (leb k 6) 1
+    (cond (eqb k 7) (perClock (wordAt b Fields.CKPERSEL))
+    (cond (leb k 14) 29
+    (cond (eqb k 15) (mco1Clock (wordAt b Fields.MCO1SEL))
+    (cond (eqb k 16) (mco2Clock (wordAt b Fields.MCO2SEL)) (cond (leb k 25) (26 + (k - 17) / 3) 29)))))))
+
+-- ---- what divides it; 0 for nothing
+-- a timer's one division, by TIMPRE and PPRE
+abbrev pub timerDivisor : (timpre ppre : ℕ) → ℕ
+timerDivisor t p = cond (eqb t 0) (cond (leb 4 p) (p / 2) 1) (cond (leb 8 p) (p / 4) 1)
+
+-- HPRE and the PPREs stand one behind the other; P, Q and R of a PLL two words apart, as dividers less 1
+unfoldable pub divisorOf : (bank : List ℕ) → (k : ℕ) → ℕ
+divisorOf b k =
+    cond (eqb k 0) 0
+    (cond (leb k 4) (wordAt b (60 + k))
+    (cond (leb k 6) (timerDivisor (wordAt b Fields.TIMPRE) (wordAt b (57 + k)))
+    (cond (leb k 14) 0
+    (cond (eqb k 15) (wordAt b Fields.MCO1PRE)
+    (cond (eqb k 16) (wordAt b Fields.MCO2PRE) (cond (leb k 25) (wordAt b (15 * ((k - 17) / 3) + 2 * ((k - 17) % 3) + Fields.P) + 1) 0))))))
+
+-- ---- the line
+abbrev pub oneIf : Bool → ℕ
+oneIf t = cond t 1 0
+
+-- no exact fraction: from a PLL that is not started
+abbrev pub noParts : (known : ℕ) → List ℕ
+noParts known = 0 ∷ 0 ∷ 0 ∷ 0 ∷ known ∷ []
+
+-- the exact fraction beside the hertz: whether it differs, whole hertz, what is left over, the denominator, and whether there should be one
+-- and is none
+abbrev pub exactParts : (known hertz : ℕ) → Reading → List ℕ
+exactParts known h Nothing = noParts known
+exactParts known h (Exactly n d) = cond (eqb d 0) (noParts known) (oneIf (not (eqb (n % d) 0 && eqb (n / d) h)) ∷ n / d ∷ n % d ∷ d ∷ 0 ∷ [])
+
+-- clock k: its number, whether it is reported, its hertz, where it comes from and whether from anywhere, what divides it; then the parts
+abbrev pub clockLine : (report bank : List ℕ) → (hse : Hertz) → (k : ℕ) → List ℕ
+clockLine report bank hse k =
+    k ∷ wordAt report (2 * k) ∷ wordAt report (2 * k + 1) ∷ fromOf bank k ∷ oneIf (not (eqb (fromOf bank k) 29)) ∷ divisorOf bank k
+    ∷ exactParts (oneIf (not (eqb (fromOf bank k) 29))) (wordAt report (2 * k + 1)) (readingOf (pathBy bank (fedBy hse) k))
+
+-- of the 26 that there are
+unfoldable pub lineOf : (report bank : List ℕ) → (hse : Hertz) → (k : ℕ) → List ℕ
+lineOf report bank hse k = cond (leb k 25) (clockLine report bank hse k) (replicate 11 0)

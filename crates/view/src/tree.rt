@@ -1,0 +1,129 @@
+// Where a clock comes from, by the selectors of a bank, and what divides it.
+ghost use mathlib.Core.Path.{_≡_};
+ghost use Prim.Native.Nat.{_<_};
+ghost use Rattle.view.specs.View.{swClock, perClock, mco1Clock, mco2Clock, fromOf, timerDivisor, divisorOf};
+use crate::word;
+
+fn sw_clock(code: u32) -> usize
+    ensures { λ r. ⌜ r ≡ swClock code ⌝ }
+{
+    match code {
+        0 => 8,
+        1 => 9,
+        2 => 12,
+        3 => 17,
+        _ => 29,
+    }
+}
+
+fn per_clock(code: u32) -> usize
+    ensures { λ r. ⌜ r ≡ perClock code ⌝ }
+{
+    match code {
+        0 => 8,
+        1 => 9,
+        2 => 12,
+        _ => 29,
+    }
+}
+
+fn mco1_clock(code: u32) -> usize
+    ensures { λ r. ⌜ r ≡ mco1Clock code ⌝ }
+{
+    match code {
+        0 => 8,
+        1 => 13,
+        2 => 12,
+        3 => 18,
+        4 => 10,
+        _ => 29,
+    }
+}
+
+fn mco2_clock(code: u32) -> usize
+    ensures { λ r. ⌜ r ≡ mco2Clock code ⌝ }
+{
+    match code {
+        0 => 0,
+        1 => 20,
+        2 => 12,
+        3 => 17,
+        4 => 9,
+        5 => 11,
+        _ => 29,
+    }
+}
+
+// The number of what clock k comes from.
+pub fn from_of(bank: &[u32], k: usize) -> usize
+    ensures { λ r. ⌜ r ≡ fromOf (now (bank .entry)) k ⌝ }
+{
+    if k == 0 {
+        return sw_clock(word(bank, 67));
+    }
+    if k == 1 {
+        return 0;
+    }
+    if k <= 6 {
+        return 1;
+    }
+    if k == 7 {
+        return per_clock(word(bank, 65));
+    }
+    if k <= 14 {
+        return 29;
+    }
+    if k == 15 {
+        return mco1_clock(word(bank, 54));
+    }
+    if k == 16 {
+        return mco2_clock(word(bank, 56));
+    }
+    if k <= 25 {
+        return 26 + (k - 17) / 3;
+    }
+    29
+}
+
+fn timer_divisor(timpre: u32, ppre: u32) -> u64
+    ensures { λ r. ⌜ r ≡ timerDivisor timpre ppre ⌝ }
+{
+    if timpre == 0 {
+        if 4 <= ppre {
+            return ppre as u64 / 2;
+        }
+        return 1;
+    }
+    if 8 <= ppre {
+        return ppre as u64 / 4;
+    }
+    1
+}
+
+// What divides clock k.
+pub fn divisor_of(bank: &[u32], k: usize) -> u64
+    ensures { λ r. ⌜ r ≡ divisorOf (now (bank .entry)) k ⌝ }
+{
+    if k == 0 {
+        return 0;
+    }
+    if k <= 4 {
+        return word(bank, 60 + k) as u64;
+    }
+    if k <= 6 {
+        return timer_divisor(word(bank, 66), word(bank, 57 + k));
+    }
+    if k <= 14 {
+        return 0;
+    }
+    if k == 15 {
+        return word(bank, 55) as u64;
+    }
+    if k == 16 {
+        return word(bank, 57) as u64;
+    }
+    if k <= 25 {
+        return word(bank, 15 * ((k - 17) / 3) + 2 * ((k - 17) % 3) + 6) as u64 + 1;
+    }
+    0
+}
