@@ -1,7 +1,7 @@
 -- The word that a refusal is about: docs/CODES.md, A request in words.
 use mathlib.Core.Bool.{Bool, cond, not, _&&_, _||_}
 use mathlib.Core.List.{List, [], _∷_}
-use Prim.Native.Nat.{ℕ}
+use Prim.Native.Nat.{ℕ, zero, suc, _+_}
 use lib.Dec.{leb, eqb}
 use lib.ListN.{getD, take}
 use Rattle.types.specs.declared.Answer.{Answer}
@@ -13,11 +13,11 @@ use Rattle.sheet.specs.Sheet.{requestLength, chipOn}
 use Rattle.ask.specs.Sheet.{withoutKey}
 
 -- the order in which keys are tried: HSE; the outputs of the PLLs, their strategies, the clock outputs, the buses, the system clock, the
--- peripheral clock, HSE and its bypass, the chip's numbers, the PLL count
+-- peripheral clock, HSE and its bypass, LSE, the audio clock, the chip's numbers, the PLL count, how many bytes are given
 unfoldable pub order : List ℕ
 order =
     0 ∷ 13 ∷ 14 ∷ 15 ∷ 17 ∷ 18 ∷ 19 ∷ 21 ∷ 22 ∷ 23 ∷ 12 ∷ 16 ∷ 20 ∷ 10 ∷ 11 ∷ 5 ∷ 6 ∷ 7 ∷ 8 ∷ 3 ∷ 4 ∷ 0 ∷ 9
-    ∷ 25 ∷ 26 ∷ 27 ∷ 28 ∷ 29 ∷ 30 ∷ 24 ∷ []
+    ∷ 1 ∷ 2 ∷ 25 ∷ 26 ∷ 27 ∷ 28 ∷ 29 ∷ 30 ∷ 24 ∷ 32 ∷ []
 
 -- where to start: with HSE for a refusal that the board causes (document 01: 6, 11, 19), else behind it
 abbrev pub startFor : (refusal : ℕ) → ℕ
@@ -32,10 +32,28 @@ codeOf (Refused n) = numberOf n
 unfoldable pub refusalOn : (sheet : List ℕ) → ℕ
 refusalOn s = codeOf (planOf (take (requestLength s) s) (chipOn s) .answer)
 
--- whether the key at place i of the order is tried, and a sheet without it is answered otherwise
-abbrev pub freedBy : (sheet : List ℕ) → (i : ℕ) → Bool
-freedBy s i = leb (startFor (refusalOn s)) i && not (eqb (refusalOn (withoutKey s (getD order i 33))) (refusalOn s))
+-- ---- sheets that are tried, one for each place of the order
+-- the sheet without the key at place i
+abbrev pub withoutOne : (sheet : List ℕ) → (i : ℕ) → List ℕ
+withoutOne s i = withoutKey s (getD order i 33)
 
--- the first such key; 33 where no single one is
+-- the sheet without the keys from the start up to place i
+unfoldable pub withoutAll : (start : ℕ) → (sheet : List ℕ) → (i : ℕ) → List ℕ
+withoutAll a s zero = s
+withoutAll a s (suc i) = cond (leb a i) (withoutOne (withoutAll a s i) i) (withoutAll a s i)
+
+-- whether the sheet of place i is tried, and answered otherwise
+abbrev pub freedBy : (tries : ℕ → List ℕ) → (sheet : List ℕ) → (i : ℕ) → Bool
+freedBy t s i = leb (startFor (refusalOn s)) i && not (eqb (refusalOn (t i)) (refusalOn s))
+
+-- the key at the first such place; 33 where there is none
+abbrev pub firstFreed : (tries : ℕ → List ℕ) → (sheet : List ℕ) → ℕ
+firstFreed t s = getD order (least (freedBy t s) 33) 33
+
+-- the key without which the sheet is answered otherwise
 unfoldable pub blamedOf : (sheet : List ℕ) → ℕ
-blamedOf s = getD order (least (freedBy s) 30) 33
+blamedOf s = firstFreed (withoutOne s) s
+
+-- the last key of those without which, taken away one after the other, the sheet is answered otherwise
+unfoldable pub lastBlamedOf : (sheet : List ℕ) → ℕ
+lastBlamedOf s = firstFreed (λ (i : ℕ). withoutAll (startFor (refusalOn s)) s (i + 1)) s

@@ -1,12 +1,13 @@
-// The word that a refusal is about: the first, in an order of its own, without which the request is not refused with the same number.
+// The word that a refusal is about: the first, in an order of its own, without which the request is not refused with the same number; where no
+// single one is, the last of those that have to be taken away together.
 ghost use mathlib.Core.Path.{_≡_};
-ghost use Prim.Native.Nat.{_<_, min};
+ghost use Prim.Native.Nat.{_<_};
 ghost use lib.ListN.{getD};
 ghost use Rattle.ask.specs.Sheet.{withoutKey};
-ghost use Rattle.blame.specs.Blame.{order, startFor, codeOf, refusalOn, blamedOf};
+ghost use Rattle.blame.specs.Blame.{order, startFor, codeOf, refusalOn, blamedOf, lastBlamedOf};
 use types::Answer;
 
-const ORDER: [usize; 30] = [
+const ORDER: [usize; 33] = [
     0,
     13,
     14,
@@ -30,6 +31,8 @@ const ORDER: [usize; 30] = [
     4,
     0,
     9,
+    1,
+    2,
     25,
     26,
     27,
@@ -37,6 +40,7 @@ const ORDER: [usize; 30] = [
     29,
     30,
     24,
+    32,
 ];
 
 fn code_of(a: Answer) -> u32
@@ -48,37 +52,35 @@ fn code_of(a: Answer) -> u32
     }
 }
 
-fn within(n: usize, bound: usize) -> usize
-    ensures { λ r. ⌜ r ≡ min n bound ⌝ }
-{
-    if n < bound {
-        return n;
-    }
-    bound
-}
-
 // The number of the refusal that a sheet gets; 0 for a plan.
-pub fn refusal_on(sheet: &[u8]) -> u32
+fn refusal_on(sheet: &[u8]) -> u32
     ensures { λ r. ⌜ r ≡ refusalOn (now (sheet .entry)) ⌝ }
 {
-    let n = within(sheet::request_length(sheet), sheet.len());
+    let n = sheet::request_length(sheet);
     let planned = rcc::plan(&sheet[..n], sheet::chip(sheet));
     let answer = planned.answer;
     code_of(answer)
 }
 
-// The same without key k.
-fn refusal_without(sheet: [u8; 115], k: usize) -> u32
-    ensures { λ r. ⌜ r ≡ refusalOn (withoutKey sheet k) ⌝ }
+// The same of a sheet's own bytes.
+fn refusal_of(sheet: [u8; 115]) -> u32
+    ensures { λ r. ⌜ r ≡ refusalOn sheet ⌝ }
+{
+    refusal_on(&sheet)
+}
+
+// A sheet without key k.
+fn without(sheet: [u8; 115], k: usize) -> [u8; 115]
+    ensures { λ r. ⌜ r ≡ withoutKey sheet k ⌝ }
 {
     let mut s = sheet;
     ask::without(&mut s, k);
-    refusal_on(&s)
+    s
 }
 
 // The key at a place of the order.
 fn key_at(i: usize) -> usize
-    requires { ⌜ i < 30 ⌝ }
+    requires { ⌜ i < 33 ⌝ }
     ensures { λ r. ⌜ r ≡ getD order i 33 ⌝ }
 {
     ORDER[i]
@@ -100,17 +102,37 @@ fn start_for(number: u32) -> usize
     1
 }
 
-// The number of the key that is to blame; 33 where no single one is.
+// The number of the key without which the sheet is answered otherwise; 33 where no single one is.
 pub fn blamed(sheet: [u8; 115]) -> usize
     ensures { λ r. ⌜ r ≡ blamedOf sheet ⌝ }
 {
-    let number = refusal_on(&sheet);
+    let number = refusal_of(sheet);
     let mut i = start_for(number);
-    while i < 30 {
+    while i < 33 {
         let k = key_at(i);
-        if refusal_without(sheet, k) != number {
+        let one_less = without(sheet, k);
+        if refusal_of(one_less) != number {
             return k;
         }
+        i += 1;
+    }
+    33
+}
+
+// The number of the last key of those without which, taken away one after the other, the sheet is answered otherwise; 33 where none is.
+pub fn last_blamed(sheet: [u8; 115]) -> usize
+    ensures { λ r. ⌜ r ≡ lastBlamedOf sheet ⌝ }
+{
+    let number = refusal_of(sheet);
+    let mut rest = sheet;
+    let mut i = start_for(number);
+    while i < 33 {
+        let k = key_at(i);
+        let less = without(rest, k);
+        if refusal_of(less) != number {
+            return k;
+        }
+        rest = less;
         i += 1;
     }
     33

@@ -1,8 +1,10 @@
-// Which word of the bank is which field, what a field takes where the plan's own number is not stored as it is, and storing one.
+// Which word of the bank is which field, what a field takes where the plan's own number is not stored as it is, storing one, and a bank at
+// reset values.
 ghost use mathlib.Core.Path.{_≡_};
 ghost use lib.ListN.{set};
 ghost use Prim.Native.Nat.{_-_};
 ghost use Rattle.rules.specs.Document01.Entries.{prftenOf, bit};
+ghost use Rattle.rules.specs.Document01.Bank.{resetBank};
 
 // Document 01, Register entries: 15 fields per PLL. PLL k's words start at 15 * k, from PLL1 as 0.
 pub const VCOSEL: usize = 0;
@@ -98,6 +100,11 @@ pub const RDY1: usize = 74;
 
 pub const RDY2: usize = 75;
 
+// Document 01, Register entries: HSI's fields, which no entry sets.
+pub const HSION: usize = 76;
+
+pub const HSIDIV: usize = 77;
+
 // Document 01, Register entries: the fields of Pwr::freeze, the last words of the bank.
 pub const VOS: usize = 78;
 
@@ -135,4 +142,18 @@ pub fn put(f: usize, v: u32, bank: &mut [u32])
     if f < bank.len() {
         bank[f] = v;
     }
+}
+
+// A bank at reset values.
+pub fn reset_bank() -> [u32; 82]
+    ensures { λ r. ⌜ r ≡ resetBank ⌝ }
+{
+    let mut bank: [u32; 82] = [0; 82];
+    bank[HPRE] = 1;
+    bank[PPRE1] = 1;
+    bank[PPRE2] = 1;
+    bank[PPRE3] = 1;
+    bank[HSION] = 1;
+    bank[HSIDIV] = 2;
+    bank
 }

@@ -1,5 +1,4 @@
 // A sheet planned, and its plan: every reported clock, the PLLs, the wait states.
-ghost use Prim.Native.Nat.{_≤_};
 use crate::help;
 use crate::list;
 use crate::print;
@@ -10,29 +9,6 @@ use types::Hertz;
 use types::Plan;
 use types::Planned;
 use types::Pll;
-
-// How many bytes of a sheet are the request.
-pub fn request_length(sheet: &[u8]) -> usize
-    ensures { λ r. ⌜ r ≤ 115 ⌝ }
-{
-    let asked = sheet::request_length(sheet);
-    if asked < 115 {
-        return asked;
-    }
-    115
-}
-
-// A bank at reset values.
-fn reset_bank() -> [u32; 82] {
-    let mut bank: [u32; 82] = [0; 82];
-    bank[61] = 1;
-    bank[62] = 1;
-    bank[63] = 1;
-    bank[64] = 1;
-    bank[76] = 1;
-    bank[77] = 2;
-    bank
-}
 
 fn clocks(report: &[u32], bank: &[u32], hse: Hertz) {
     print::say(b"clock            hertz  from\n");
@@ -47,24 +23,14 @@ fn clocks(report: &[u32], bank: &[u32], hse: Hertz) {
     }
 }
 
-fn pll(number: u64, x: Pll, src: u32) {
-    let mut w: [u32; 18] = [0; 18];
-    pll_words::store(x, &mut w);
-    let from = if src == 3 { 12 } else { 8 };
-    if w[2] != 0 {
+fn pll(n: u32, x: Pll, src: u32) {
+    let mut words: [u32; 18] = [0; 18];
+    pll_words::store(x, &mut words);
+    let numbers = lines::pll_line(n, src, &words);
+    if numbers[2] != 0 {
         print::clocks(
             b"pll{0}        {1#} / {2} = {3}, x {4}{5?} + {6}/8192{.}, VCO {7}, {8#}\n",
-            &[
-                number,
-                from,
-                wide(w[2]),
-                wide(w[3]),
-                wide(w[5]),
-                wide(w[6]),
-                wide(w[7]),
-                wide(w[8]),
-                wide(w[0]) + 30,
-            ],
+            &numbers,
         );
     }
 }
@@ -96,16 +62,15 @@ fn plan(x: Planned, bank: [u32; 82]) {
 }
 
 // What the planner answers to a sheet, in a bank at reset values.
-fn ask_planner(sheet: [u8; 115], bank: &mut [u32]) -> Planned {
-    let n = request_length(&sheet);
-    let chip = sheet::chip(&sheet);
-    rcc::plan_bank(&sheet[..n], chip, bank)
+fn ask_planner(sheet: &[u8], bank: &mut [u32]) -> Planned {
+    let n = sheet::request_length(sheet);
+    rcc::plan_bank(&sheet[..n], sheet::chip(sheet), bank)
 }
 
 // The plan, or the refusal with its page; then what else is asked for.
 pub fn show(sheet: [u8; 115]) {
-    let mut bank = reset_bank();
-    let x = ask_planner(sheet, &mut bank);
+    let mut bank = fields::reset_bank();
+    let x = ask_planner(&sheet, &mut bank);
     let a = x.answer;
     match a {
         Answer::Accepted => plan(x, bank),
@@ -114,13 +79,13 @@ pub fn show(sheet: [u8; 115]) {
             help::page(refusal::number_of(m));
         }
     }
-    list::show(x, bank, sheet);
+    list::show(x, bank, &sheet);
 }
 
 // The plan, or the refusal without its page.
 pub fn short(sheet: [u8; 115]) {
-    let mut bank = reset_bank();
-    let x = ask_planner(sheet, &mut bank);
+    let mut bank = fields::reset_bank();
+    let x = ask_planner(&sheet, &mut bank);
     let a = x.answer;
     match a {
         Answer::Accepted => plan(x, bank),

@@ -7,10 +7,6 @@ pub fn wide(n: u32) -> u64
     n as u64
 }
 
-pub fn byte(n: u8) -> u64 {
-    n as u64
-}
-
 pub fn say(text: &[u8]) {
     io::write_all(1, text);
 }

@@ -10,15 +10,15 @@ fn keys(form: &[u8], numbers: &[u64]) {
         pll1        pll1.p      pll1.q      pll1.r      pll2        pll2.p      \
         pll2.q      pll2.r      pll3        pll3.p      pll3.q      pll3.r      \
         chip        odd1        odd2        odd3        scale       hsion       \
-        hsidiv      ",
+        hsidiv      show        bytes       ",
         numbers,
     );
 }
 
-// The number, and the word without which the request is not refused with it.
+// The number, and the word without which the request is not refused with it; where no single one is, the last that goes with others.
 pub fn show(sheet: [u8; 115], number: u32) {
     let k = blame::blamed(sheet);
-    if k < 31 {
+    if k < 33 {
         keys(
             b"Refused: {0}, about {1#}. Without it the request is not refused with {0}.\n",
             &[number as u64, k as u64],
@@ -26,7 +26,7 @@ pub fn show(sheet: [u8; 115], number: u32) {
         return;
     }
     keys(
-        b"Refused: {0}, about more than one word, or about the bytes given.\n",
-        &[number as u64],
+        b"Refused: {0}, about {1#} and other words: leaving out one is not enough.\n",
+        &[number as u64, blame::last_blamed(sheet) as u64],
     );
 }

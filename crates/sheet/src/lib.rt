@@ -1,8 +1,9 @@
 // A sheet: 115 bytes that hold a request and a chip, as docs/CODES.md has it (A request in words): the 106 of a request with three PLLs, the
 // chip's seven numbers, what is shown, and how many bytes of a request are given.
 ghost use mathlib.Core.Path.{_≡_};
+ghost use Prim.Native.Nat.{min};
 ghost use lib.ListN.{getD, take, drop};
-ghost use Rattle.sheet.specs.Sheet.{freshSheet, allZero, requestLength, chipOn};
+ghost use Rattle.sheet.specs.Sheet.{freshSheet, allZero, bytesMeant, requestLength, chipOn};
 use types::Chip;
 
 // A sheet with nothing requested, of a chip with two PLLs.
@@ -30,9 +31,9 @@ fn no_pll3(sheet: &[u8]) -> bool
     true
 }
 
-// How many bytes the request of a sheet has.
-pub fn request_length(sheet: &[u8]) -> usize
-    ensures { λ r. ⌜ r ≡ requestLength (now (sheet .entry)) ⌝ }
+// How many bytes of a sheet are meant.
+fn bytes_meant(sheet: &[u8]) -> usize
+    ensures { λ r. ⌜ r ≡ bytesMeant (now (sheet .entry)) ⌝ }
 {
     let given = text::byte_at(sheet, 114, 0) as usize;
     if given != 0 {
@@ -45,6 +46,22 @@ pub fn request_length(sheet: &[u8]) -> usize
         return 90;
     }
     106
+}
+
+fn at_most(n: usize, bound: usize) -> usize
+    ensures { λ r. ⌜ r ≡ min n bound ⌝ }
+{
+    if n < bound {
+        return n;
+    }
+    bound
+}
+
+// How many bytes the request of a sheet has: no more than the sheet.
+pub fn request_length(sheet: &[u8]) -> usize
+    ensures { λ r. ⌜ r ≡ requestLength (now (sheet .entry)) ⌝ }
+{
+    at_most(bytes_meant(sheet), sheet.len())
 }
 
 // A byte of a sheet as a number; 0 past its end.

@@ -3,37 +3,39 @@ use mathlib.Core.Path.{_≡_, ap, _∙_}
 use Prim.Native.Nat.{_-_}
 use native.Mathlib.Omega.{arith}
 use borrow.Author.Needs.{needs}
+use Rattle.ask.specs.Sheet.{withoutKey}
 use Rattle.blame.proofs.Tried.{Tried, starts, found, goes-on, ends}
-use Rattle.blame.specs.Blame.{startFor, refusalOn}
+use Rattle.blame.specs.Blame.{startFor, refusalOn, withoutOne, blamedOf}
 use Rattle.blame.proofs.blamed.Statement.{statement}
 use Rattle.blame.proofs.blamed.Tie as tie
 
 abbrev Inv-loop : tie.InvT-loop
-Inv-loop sheet number i₀ i = (number ≡ refusalOn sheet) × Tried sheet i
+Inv-loop sheet number i₀ i = (number ≡ refusalOn sheet) × Tried (withoutOne sheet) sheet i
 
 abbrev μ-loop : tie.MeasureT-loop
-μ-loop sheet number i₀ i = 30 - i
+μ-loop sheet number i₀ i = 33 - i
 
-slice-aggregate-refusal-on : tie.Need-slice-aggregate-refusal-on Inv-loop μ-loop
-slice-aggregate-refusal-on c = search needs
-
-refusal-on-requires : tie.Need-refusal-on-requires Inv-loop μ-loop
-refusal-on-requires c κs = search needs
+refusal-of-requires : tie.Need-refusal-of-requires Inv-loop μ-loop
+refusal-of-requires c κs = search needs
 
 start-for-requires : tie.Need-start-for-requires Inv-loop μ-loop
 start-for-requires c κs = search needs
 
 loop-holds : tie.Need-loop-holds Inv-loop μ-loop
-loop-holds c = (c .before .refusal-on .ensures, starts _ _ (c .start-for .ensures ∙ ap startFor (c .before .refusal-on .ensures)))
+loop-holds c = (c .before .refusal-of .ensures, starts _ _ _ (c .start-for .ensures ∙ ap startFor (c .before .refusal-of .ensures)))
 
 key-at-requires : tie.Need-key-at-requires Inv-loop μ-loop
 key-at-requires c κs = search needs
 
-refusal-without-requires : tie.Need-refusal-without-requires Inv-loop μ-loop
-refusal-without-requires c κs = search needs
+without-requires : tie.Need-without-requires Inv-loop μ-loop
+without-requires c κs = search needs
+
+refusal-of-requires-2 : tie.Need-refusal-of-requires-2 Inv-loop μ-loop
+refusal-of-requires-2 c κs = search needs
 
 returns : tie.Need-returns Inv-loop μ-loop
-returns c = let l = c .before .before .before .before .loop in found _ _ (l .inv .0) (l .i) (l .inv .1) (c .before .before .before .loop-test .taken) _ _ (c .before .before .key-at .ensures) (c .before .refusal-without .ensures) (c .if1 .taken)
+unfolding blamedOf
+returns c = let l = c .before .before .before .before .before .loop in found _ _ _ (l .inv .0) (l .i) (l .inv .1) (c .before .before .before .before .loop-test .taken) _ _ _ (c .before .before .before .key-at .ensures) (c .before .before .without .ensures ∙ ap (withoutKey _) (c .before .before .before .key-at .ensures)) (c .before .refusal-of2 .ensures) (c .if1 .taken)
 
 add-i : tie.Need-add-i Inv-loop μ-loop
 add-i c = search needs
@@ -42,10 +44,11 @@ loop-less : tie.Need-loop-less Inv-loop μ-loop
 loop-less c = search needs
 
 loop-again : tie.Need-loop-again Inv-loop μ-loop
-loop-again c = let l = c .before .before .before .before .loop in (l .inv .0, goes-on _ _ (l .inv .0) (l .i) (l .inv .1) (c .before .before .before .loop-test .taken) _ _ (c .before .before .key-at .ensures) (c .before .refusal-without .ensures) (c .if1 .left))
+loop-again c = let l = c .before .before .before .before .before .loop in (l .inv .0, goes-on _ _ _ (l .inv .0) (l .i) (l .inv .1) (c .before .before .before .before .loop-test .taken) _ _ _ (c .before .before .before .key-at .ensures) (c .before .before .without .ensures ∙ ap (withoutKey _) (c .before .before .before .key-at .ensures)) (c .before .refusal-of2 .ensures) (c .if1 .left))
 
 returns-2 : tie.Need-returns-2 Inv-loop μ-loop
-returns-2 c = ends _ (c .before .loop .i) (c .before .loop .inv .1) (c .loop-test .left)
+unfolding blamedOf
+returns-2 c = ends _ _ (c .before .loop .i) (c .before .loop .inv .1) (c .loop-test .left)
 
 pub blamed-spec : {M : Type 1} → statement M
 blamed-spec =
@@ -53,12 +56,12 @@ blamed-spec =
     (tie.spec
     Inv-loop
     μ-loop
-    slice-aggregate-refusal-on
-    refusal-on-requires
+    refusal-of-requires
     start-for-requires
     loop-holds
     key-at-requires
-    refusal-without-requires
+    without-requires
+    refusal-of-requires-2
     returns
     add-i
     loop-less

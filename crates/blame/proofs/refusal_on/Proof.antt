@@ -1,9 +1,8 @@
 -- `blame::refusal_on` meets its contract.
 use mathlib.Core.Path.{ap, _∙_}
 use denote.Ref.{now}
-use native.Mathlib.Omega.{arith}
 use borrow.Author.Needs.{needs}
-use Rattle.blame.proofs.Tried.{cut-at, cut-length}
+use Rattle.sheet.proofs.Length.{request-is-long}
 use Rattle.blame.specs.Blame.{codeOf, refusalOn}
 use Rattle.rules.specs.Document01.Plan.{planOf}
 use Rattle.types.specs.declared.Planned.{Planned}
@@ -13,11 +12,8 @@ use Rattle.blame.proofs.refusal_on.Tie as tie
 request-length-requires : tie.Need-request-length-requires
 request-length-requires c κs = search needs
 
-within-requires : tie.Need-within-requires
-within-requires c κs = search needs
-
 slice-aggregate-plan : tie.Need-slice-aggregate-plan
-slice-aggregate-plan c = cut-length (now (c .before .before .before .before .args .sheet)) (c .before .within .result) (let e = c .before .within .ensures in omega arith)
+slice-aggregate-plan c = request-is-long (now (c .before .before .before .args .sheet)) _ (c .before .request-length .ensures)
 
 chip-requires : tie.Need-chip-requires
 chip-requires c κs = search needs
@@ -30,14 +26,13 @@ code-of-requires c κs = search needs
 
 returns : tie.Need-returns
 unfolding refusalOn
-returns c = let s = now (c .before .before .before .before .before .before .before .args .sheet) in c .code-of .ensures ∙ ap (λ (x : Planned). codeOf (x .answer)) (c .before .plan .ensures .0) ∙ rw (c .before .before .before .before .within .ensures, cut-at s (c .before .before .before .before .before .request-length .result), c .before .before .before .before .before .request-length .ensures, c .before .before .chip .ensures)
+returns c = c .code-of .ensures ∙ ap (λ (x : Planned). codeOf (x .answer)) (c .before .plan .ensures .0) ∙ rw (c .before .before .before .before .request-length .ensures, c .before .before .chip .ensures)
 
 pub refusal-on-spec : {M : Type 1} → statement M
 refusal-on-spec =
     tie.close
     (tie.spec
     request-length-requires
-    within-requires
     slice-aggregate-plan
     chip-requires
     plan-requires

@@ -1,6 +1,7 @@
 -- `plan::main` meets its contract.
+use mathlib.Core.Path.{sym}
 use borrow.Author.Needs.{needs}
-use Rattle.blame.proofs.Tried.{cut-length}
+use lib.Seq.{length-take-le}
 use Rattle.plan.proofs.main.Statement.{statement}
 use Rattle.plan.proofs.main.Tie as tie
 
@@ -17,7 +18,7 @@ array-share-prefix-words : tie.Need-array-share-prefix-words
 array-share-prefix-words c = search needs
 
 slice-aggregate-run : tie.Need-slice-aggregate-run
-slice-aggregate-run c = cut-length (c .before .before .before .gather .last .0) (c .before .before .before .gather .result) (search needs)
+slice-aggregate-run c = sym (length-take-le (c .before .before .before .gather .result) (c .before .before .before .gather .last .0) (search needs))
 
 run-requires : tie.Need-run-requires
 run-requires c κs = search needs

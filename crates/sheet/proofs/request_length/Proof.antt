@@ -1,48 +1,19 @@
 -- `sheet::request_length` meets its contract.
-use borrow.Author.Tests.{eq-eqb, ne-eqb}
-use Prim.Native.Nat.{_-_}
-use Rattle.sheet.specs.Sheet.{requestLength}
+use mathlib.Core.Path.{_∙_}
 use borrow.Author.Needs.{needs}
+use Rattle.sheet.specs.Sheet.{requestLength}
 use Rattle.sheet.proofs.request_length.Statement.{statement}
 use Rattle.sheet.proofs.request_length.Tie as tie
 
-byte-at-requires : tie.Need-byte-at-requires
-byte-at-requires c κs = tt
+bytes-meant-requires : tie.Need-bytes-meant-requires
+bytes-meant-requires c κs = search needs
 
-cast-given : tie.Need-cast-given
-cast-given c = search needs
+at-most-requires : tie.Need-at-most-requires
+at-most-requires c κs = search needs
 
 returns : tie.Need-returns
 unfolding requestLength
-returns c = rw (← c .before .byte-at .ensures, ne-eqb _ _ (c .if1 .taken))
-
-byte-at-requires-2 : tie.Need-byte-at-requires-2
-byte-at-requires-2 c κs = tt
-
-returns-2 : tie.Need-returns-2
-unfolding requestLength
-returns-2 c = rw (← c .before .before .before .byte-at .ensures, eq-eqb _ _ (c .before .before .if1 .left), ← c .before .byte-at2 .ensures, eq-eqb _ _ (c .if2 .taken))
-
-no-pll3-requires : tie.Need-no-pll3-requires
-no-pll3-requires c κs = tt
-
-returns-3 : tie.Need-returns-3
-unfolding requestLength
-returns-3 c = rw (← c .before .before .before .before .before .byte-at .ensures, eq-eqb _ _ (c .before .before .before .before .if1 .left), ← c .before .before .before .byte-at2 .ensures, ne-eqb _ _ (c .before .before .if2 .left), ← c .before .no-pll3 .ensures, c .if3 .taken)
-
-returns-4 : tie.Need-returns-4
-unfolding requestLength
-returns-4 c = rw (← c .before .before .before .before .before .byte-at .ensures, eq-eqb _ _ (c .before .before .before .before .if1 .left), ← c .before .before .before .byte-at2 .ensures, ne-eqb _ _ (c .before .before .if2 .left), ← c .before .no-pll3 .ensures, c .if3 .left)
+returns c = c .at-most .ensures ∙ rw (c .before .bytes-meant .ensures)
 
 pub request-length-spec : {M : Type 1} → statement M
-request-length-spec =
-    tie.close
-    (tie.spec
-    byte-at-requires
-    cast-given
-    returns
-    byte-at-requires-2
-    returns-2
-    no-pll3-requires
-    returns-3
-    returns-4)
+request-length-spec = tie.close (tie.spec bytes-meant-requires at-most-requires returns)

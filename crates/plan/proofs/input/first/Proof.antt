@@ -1,8 +1,9 @@
 -- `plan::input::first` meets its contract.
+use mathlib.Core.Path.{sym}
 use denote.Ref.{now}
 use native.Mathlib.Omega.{arith}
 use borrow.Author.Needs.{needs}
-use Rattle.blame.proofs.Tried.{cut-length}
+use lib.Seq.{length-take-le}
 use Rattle.text.proofs.Parts.{before-length}
 use Rattle.plan.proofs.input.first.Statement.{statement}
 use Rattle.plan.proofs.input.first.Tie as tie
@@ -17,7 +18,7 @@ slice-aggregate-name-number : tie.Need-slice-aggregate-name-number
 slice-aggregate-name-number c = search needs
 
 slice-aggregate-name-number-2 : tie.Need-slice-aggregate-name-number-2
-slice-aggregate-name-number-2 c = let e = c .before .before .find .ensures in let h = before-length 32 (now (c .before .before .before .before .before .args .words)) in cut-length (now (c .before .before .before .before .before .args .words)) (c .before .before .find .result) (omega arith)
+slice-aggregate-name-number-2 c = let e = c .before .before .find .ensures in let h = before-length 32 (now (c .before .before .before .before .before .args .words)) in sym (length-take-le (c .before .before .find .result) (now (c .before .before .before .before .before .args .words)) (omega arith))
 
 name-number-requires : tie.Need-name-number-requires
 name-number-requires c κs = search needs

@@ -1,34 +1,26 @@
 -- `plan::list::all_words` meets its contract.
-use mathlib.Core.Path.{_≡_}
 use Prim.Native.Nat.{_≤_, _-_}
-use lib.ListN.{length}
 use borrow.Author.Needs.{needs}
 use Rattle.plan.proofs.list.all_words.Statement.{statement}
 use Rattle.plan.proofs.list.all_words.Tie as tie
 
 abbrev Inv-loop : tie.InvT-loop
-Inv-loop bank f₀ t4 t5 f = f ≤ 82
+Inv-loop bank f₀ t5 t6 f = f ≤ 82
 
 abbrev μ-loop : tie.MeasureT-loop
-μ-loop bank f₀ t4 t5 f = 82 - f
+μ-loop bank f₀ t5 t6 f = 82 - f
 
 loop-holds : tie.Need-loop-holds Inv-loop μ-loop
 loop-holds c = search needs
 
+slice-aggregate-word-line : tie.Need-slice-aggregate-word-line Inv-loop μ-loop
+slice-aggregate-word-line c = search needs
+
+word-line-requires : tie.Need-word-line-requires Inv-loop μ-loop
+word-line-requires c κs = search needs
+
 slice-aggregate-fields : tie.Need-slice-aggregate-fields Inv-loop μ-loop
 slice-aggregate-fields c = search needs
-
-add-t13 : tie.Need-add-t13 Inv-loop μ-loop
-add-t13 c = search needs
-
-mul-wide : tie.Need-mul-wide Inv-loop μ-loop
-mul-wide c = search needs
-
-array-read-wide : tie.Need-array-read-wide Inv-loop μ-loop
-array-read-wide c = search needs
-
-wide-requires : tie.Need-wide-requires Inv-loop μ-loop
-wide-requires c κs = search needs
 
 slice-aggregate-fields-2 : tie.Need-slice-aggregate-fields-2 Inv-loop μ-loop
 slice-aggregate-fields-2 c = search needs
@@ -61,11 +53,9 @@ all-words-spec =
     Inv-loop
     μ-loop
     loop-holds
+    slice-aggregate-word-line
+    word-line-requires
     slice-aggregate-fields
-    add-t13
-    mul-wide
-    array-read-wide
-    wide-requires
     slice-aggregate-fields-2
     fields-requires
     add-f

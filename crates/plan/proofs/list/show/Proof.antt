@@ -1,17 +1,15 @@
 -- `plan::list::show` meets its contract.
+use denote.Ref.{now}
+use Rattle.sheet.proofs.Length.{request-is-long}
 use borrow.Author.Needs.{needs}
-use Rattle.blame.proofs.Tried.{cut-length}
 use Rattle.plan.proofs.list.show.Statement.{statement}
 use Rattle.plan.proofs.list.show.Tie as tie
-
-slice-aggregate-request-length : tie.Need-slice-aggregate-request-length
-slice-aggregate-request-length c = search needs
 
 request-length-requires : tie.Need-request-length-requires
 request-length-requires c κs = search needs
 
-array-read-match : tie.Need-array-read-match
-array-read-match c = search needs
+byte-at-requires : tie.Need-byte-at-requires
+byte-at-requires c κs = search needs
 
 all-entries-requires : tie.Need-all-entries-requires
 all-entries-requires c κs = search needs
@@ -19,11 +17,8 @@ all-entries-requires c κs = search needs
 all-words-requires : tie.Need-all-words-requires
 all-words-requires c κs = search needs
 
-array-share-prefix-sheet : tie.Need-array-share-prefix-sheet
-array-share-prefix-sheet c = search needs
-
 slice-aggregate-bytes : tie.Need-slice-aggregate-bytes
-slice-aggregate-bytes c = cut-length _ (c .before .before .request-length .result) (search needs)
+slice-aggregate-bytes c = request-is-long (now (c .before .before .before .before .before .args .sheet)) _ (c .before .before .before .request-length .ensures)
 
 bytes-requires : tie.Need-bytes-requires
 bytes-requires c κs = search needs
@@ -44,12 +39,10 @@ pub show-spec : {M : Type 1} → statement M
 show-spec =
     tie.close
     (tie.spec
-    slice-aggregate-request-length
     request-length-requires
-    array-read-match
+    byte-at-requires
     all-entries-requires
     all-words-requires
-    array-share-prefix-sheet
     slice-aggregate-bytes
     bytes-requires
     returns

@@ -1,6 +1,7 @@
 -- `plan::print::line` meets its contract.
+use mathlib.Core.Path.{sym}
 use borrow.Author.Needs.{needs}
-use Rattle.blame.proofs.Tried.{cut-length}
+use lib.Seq.{length-take-le}
 use Rattle.plan.proofs.print.line.Statement.{statement}
 use Rattle.plan.proofs.print.line.Tie as tie
 
@@ -14,7 +15,7 @@ array-share-prefix-out : tie.Need-array-share-prefix-out
 array-share-prefix-out c = search needs
 
 slice-aggregate-write-all : tie.Need-slice-aggregate-write-all
-slice-aggregate-write-all c = cut-length _ (c .before .before .fill .result) (search needs)
+slice-aggregate-write-all c = sym (length-take-le (c .before .before .fill .result) _ (search needs))
 
 write-all-requires : tie.Need-write-all-requires
 write-all-requires c κs = search needs
