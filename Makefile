@@ -12,8 +12,11 @@ test:
 	scripts/check-plan
 	. scripts/quick && rt ci
 
-# target/staticlib/libclock_api.a, for C and Rust to link
-library:
+# for C and Rust to link
+library: target/staticlib/libclock_api.a
+	@:
+
+target/staticlib/libclock_api.a: crates.txt scripts/library $(shell find crates -name '*.rt' -o -name '*.antt')
 	@mkdir -p target && scripts/library >target/library.log 2>&1 || { cat target/library.log; exit 1; }
 
 # the planner's library from C and Rust, and against the HAL's sources
@@ -21,6 +24,5 @@ host:
 	scripts/check-host
 
 # the time of a request, beside the HAL's sources
-bench-host:
-	@mkdir -p host/target && scripts/library >host/target/bench.log 2>&1 || { cat host/target/bench.log; exit 1; }
+bench-host: library
 	@cd host && CLOCK_API_LIB="$(CURDIR)/target/staticlib" CARGO_TARGET_DIR="$(CURDIR)/host/target" cargo run -q --offline --release -p bench
