@@ -11,29 +11,12 @@ use borrow.Author.Tests.{ltb-true, ltb-false, le-leb, ne-eqb, eqb-true, eqb-fals
 use Rattle.laws.proofs.Tests.{by-test, never, either, and-right, allBelow, at-each}
 use Rattle.rules.proofs.Computes.{byRules}
 use Rattle.text.specs.Names.{least}
-use Rattle.text.proofs.Least.{at-most}
+use Rattle.text.proofs.Least.{least-passes, last-passes}
 use Rattle.sheet.specs.Sheet.{freshSheet, allZero, requestLength, chipOn}
 use Rattle.ask.specs.Table.{kinds, places}
 use Rattle.ask.specs.Sheet.{widthOf, withoutKey}
 use Rattle.ask.proofs.Keys.{ends-within, width-any}
 use Rattle.blame.specs.Blame.{order, startFor, refusalOn, withoutOne, withoutAll, freedBy, blamedOf, lastBlamedOf}
-
--- ---- the least number that passes a test
-module _ (p : ℕ → Bool) where
-  -- where there is one, it passes the test
-  least-passes : (n : ℕ) → least p n < n → p (least p n) ≡ true
-  unfolding least
-  least-passes zero h = absurd (omega arith)
-  least-passes (suc n) h =
-      by-test (ltb (least p n) n)
-      (λ (t : ltb (least p n) n ≡ true). rw t (least-passes n (ltb-true (least p n) n t)))
-      (λ (f : ltb (least p n) n ≡ false).
-      by-test (p n) (λ (t : p n ≡ true). rw (f, t, t)) (λ (g : p n ≡ false). let z = rw (f, g) at h in absurd (omega arith)))
-
-  -- there is one where the last number passes
-  last-passes : (n : ℕ) → p n ≡ true → least p (suc n) < suc n
-  unfolding least
-  last-passes n t = rw t (either (λ m. m < suc n) (ltb (least p n) n) _ _ (omega (arith, at-most p n)) (omega arith))
 
 -- ---- without the word told the sheet is answered otherwise
 pub blamed-frees : (s : List ℕ) → blamedOf s < 33 → refusalOn (withoutKey s (blamedOf s)) ≡ refusalOn s → ⊥

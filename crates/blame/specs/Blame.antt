@@ -4,9 +4,7 @@ use mathlib.Core.List.{List, [], _∷_}
 use Prim.Native.Nat.{ℕ, zero, suc, _+_}
 use lib.Dec.{leb, eqb}
 use lib.ListN.{getD, take}
-use Rattle.types.specs.declared.Answer.{Answer}
-use Rattle.types.specs.declared.Answer.the-variants.{Accepted, Refused}
-use Rattle.rules.specs.Document01.Refusals.{numberOf}
+use Rattle.rules.specs.Document01.Refusals.{codeOf}
 use Rattle.rules.specs.Document01.Plan.{planOf}
 use Rattle.text.specs.Names.{least}
 use Rattle.sheet.specs.Sheet.{requestLength, chipOn}
@@ -22,11 +20,6 @@ order =
 -- where to start: with HSE for a refusal that the board causes (document 01: 6, 11, 19), else behind it
 abbrev pub startFor : (refusal : ℕ) → ℕ
 startFor n = cond (eqb n 6 || (eqb n 11 || eqb n 19)) 0 1
-
--- 0 for a plan, or the refusal's number
-abbrev pub codeOf : Answer → ℕ
-codeOf Accepted = 0
-codeOf (Refused n) = numberOf n
 
 -- what the planner answers to a sheet
 unfoldable pub refusalOn : (sheet : List ℕ) → ℕ

@@ -4,8 +4,7 @@ ghost use mathlib.Core.Path.{_≡_};
 ghost use Prim.Native.Nat.{_<_};
 ghost use lib.ListN.{getD};
 ghost use Rattle.ask.specs.Sheet.{withoutKey};
-ghost use Rattle.blame.specs.Blame.{order, startFor, codeOf, refusalOn, blamedOf, lastBlamedOf};
-use types::Answer;
+ghost use Rattle.blame.specs.Blame.{order, startFor, refusalOn, blamedOf, lastBlamedOf};
 
 const ORDER: [usize; 33] = [
     0,
@@ -43,15 +42,6 @@ const ORDER: [usize; 33] = [
     32,
 ];
 
-fn code_of(a: Answer) -> u32
-    ensures { λ r. ⌜ r ≡ codeOf a ⌝ }
-{
-    match a {
-        Answer::Accepted => 0,
-        Answer::Refused(n) => refusal::number_of(n),
-    }
-}
-
 // The number of the refusal that a sheet gets; 0 for a plan.
 fn refusal_on(sheet: &[u8]) -> u32
     ensures { λ r. ⌜ r ≡ refusalOn (now (sheet .entry)) ⌝ }
@@ -59,7 +49,7 @@ fn refusal_on(sheet: &[u8]) -> u32
     let n = sheet::request_length(sheet);
     let planned = rcc::plan(&sheet[..n], sheet::chip(sheet));
     let answer = planned.answer;
-    code_of(answer)
+    refusal::code_of(answer)
 }
 
 // The same of a sheet's own bytes.

@@ -11,12 +11,12 @@ use Rattle.types.specs.declared.Refusal.{Refusal}
 use Rattle.types.specs.declared.Answer.{Answer}
 use Rattle.types.specs.declared.Answer.the-variants.{Accepted, Refused}
 use Rattle.types.specs.declared.Planned.{Planned}
-use Rattle.rules.specs.Document01.Refusals.{numberOf}
+use Rattle.rules.specs.Document01.Refusals.{numberOf, codeOf}
 use Rattle.rules.specs.Document01.Plan.{planOf, bankPlanOf}
 use Rattle.rules.specs.Document01.Entries.{entriesOf}
 use Rattle.rules.specs.Document01.Bank.{applyAll}
 use Rattle.rules.specs.Document01.Words.{storedFrom, reportWords, listed as listedIn}
-use Rattle.clock_api.specs.Calls.{chipFrom, outside, askedOf, bankAsked, codeOf, reportBy, listBy}
+use Rattle.clock_api.specs.Calls.{chipFrom, outside, askedOf, bankAsked, reportBy, listBy}
 
 module _ (request chip : List ℕ) (fits : Bool) where
   pub no-chip : length chip ≢ 7 → outside ≡ askedOf request chip fits

@@ -10,7 +10,6 @@ use Rattle.types.specs.declared.Answer.{Answer}
 use Rattle.types.specs.declared.Answer.the-variants.{Accepted, Refused}
 use Rattle.types.specs.declared.Planned.{Planned}
 use Rattle.rules.specs.Document01.Result as Result
-use Rattle.rules.specs.Document01.Refusals.{numberOf}
 use Rattle.rules.specs.Document01.Plan.{answered, planOf, bankPlanOf}
 use Rattle.rules.specs.Document01.Entries.{entriesOf}
 use Rattle.rules.specs.Document01.Words.{storedFrom, reportWords, listed}
@@ -34,11 +33,6 @@ askedOf request chip fits = cond (eqb (length chip) 7 && fits) (planOf request (
 -- the bank call, where 2 judges the bank's length
 unfoldable pub bankAsked : (request chip : List ℕ) → (words : ℕ) → Planned
 bankAsked request chip words = cond (eqb (length chip) 7) (bankPlanOf request (chipFrom chip) words) outside
-
--- 0, or the refusal's number
-abbrev pub codeOf : Answer → ℕ
-codeOf Accepted = 0
-codeOf (Refused n) = numberOf n
 
 -- a plan is reported; a refusal changes no word
 abbrev pub reportBy : Answer → Planned → List ℕ → List ℕ

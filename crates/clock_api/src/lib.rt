@@ -4,7 +4,8 @@ ghost use lib.Dec.{eqb};
 ghost use lib.ListN.{length};
 ghost use Rattle.rules.specs.Document01.Entries.{entriesOf};
 ghost use Rattle.rules.specs.Document01.Bank.{applyAll};
-ghost use Rattle.clock_api.specs.Calls.{chipOf, chipFrom, askedOf, bankAsked, codeOf, reportBy, listBy};
+ghost use Rattle.rules.specs.Document01.Refusals.{codeOf};
+ghost use Rattle.clock_api.specs.Calls.{chipOf, chipFrom, askedOf, bankAsked, reportBy, listBy};
 use types::Answer;
 use types::Chip;
 use types::Planned;
@@ -54,16 +55,6 @@ fn asked(request: &[u8], chip: &[u8], fits: bool) -> Planned
         return freeze::refused(Refusal::OutsideCodes);
     }
     rcc::plan(request, chip_from(chip))
-}
-
-// 0, or the refusal's number.
-fn code(answer: Answer) -> u32
-    ensures { λ r. ⌜ r ≡ codeOf answer ⌝ }
-{
-    match answer {
-        Answer::Accepted => 0,
-        Answer::Refused(n) => refusal::number_of(n),
-    }
 }
 
 // A plan's clocks, in 55 words.
@@ -126,5 +117,5 @@ pub extern "C" fn clock_bank(request: &[u8], chip: &[u8], bank: &mut [u32]) -> u
     }
     let x = rcc::plan_bank(request, chip_from(chip), bank);
     let answer = x.answer;
-    code(answer)
+    refusal::code_of(answer)
 }

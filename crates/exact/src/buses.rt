@@ -5,11 +5,6 @@ ghost use Rattle.rules.specs.Manual.Tree as Tree;
 ghost use Rattle.rules.specs.Manual.Tree.{Chain, word as wordOf};
 ghost use Rattle.exact.specs.Exact.{fedBy, readingOf};
 use crate::Reading;
-use crate::bank::CKPERSEL;
-use crate::bank::CSION;
-use crate::bank::HPRE;
-use crate::bank::SW;
-use crate::bank::TIMPRE;
 use crate::bank::word;
 use crate::oscillators::CSI;
 use crate::oscillators::fixed;
@@ -17,6 +12,11 @@ use crate::oscillators::hse;
 use crate::oscillators::hsi;
 use crate::pll;
 use crate::steps;
+use fields::CKPERSEL;
+use fields::CSION;
+use fields::HPRE;
+use fields::SW;
+use fields::TIMPRE;
 use types::Hertz;
 
 // SW: 0 HSI, 1 CSI, 2 HSE, 3 PLL1 P.

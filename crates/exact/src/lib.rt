@@ -1,19 +1,19 @@
 // The manual's clock tree as code: from the words of a bank and the request's HSE hertz, the exact fraction of one clock. Document 01, The clock tree.
 ghost use mathlib.Core.Path.{_≡_};
 ghost use Rattle.exact.specs.Exact.{fedBy, pathBy, readingOf};
-use bank::CSION;
-use bank::HSI48ON;
-use bank::LSION;
-use bank::MCO1PRE;
-use bank::MCO2PRE;
-use bank::PPRE1;
-use bank::PPRE2;
-use bank::PPRE3;
 use buses::ahb;
 use buses::divided;
 use buses::per;
 use buses::sys;
 use buses::timer;
+use fields::CSION;
+use fields::HSI48ON;
+use fields::LSION;
+use fields::MCO1PRE;
+use fields::MCO2PRE;
+use fields::PPRE1;
+use fields::PPRE2;
+use fields::PPRE3;
 use mco::mco1_source;
 use mco::mco2_source;
 use oscillators::CSI;

@@ -5,11 +5,6 @@ ghost use Rattle.rules.specs.Manual.Tree as Tree;
 ghost use Rattle.rules.specs.Manual.Tree.{Chain, word as wordOf};
 ghost use Rattle.exact.specs.Exact.{fedBy, readingOf};
 use crate::Reading;
-use crate::bank::CSION;
-use crate::bank::HSI48ON;
-use crate::bank::LSION;
-use crate::bank::MCO1SEL;
-use crate::bank::MCO2SEL;
 use crate::bank::word;
 use crate::buses::sys;
 use crate::oscillators::CSI;
@@ -19,6 +14,11 @@ use crate::oscillators::fixed;
 use crate::oscillators::hse;
 use crate::oscillators::hsi;
 use crate::pll;
+use fields::CSION;
+use fields::HSI48ON;
+use fields::LSION;
+use fields::MCO1SEL;
+use fields::MCO2SEL;
 use types::Hertz;
 
 // The clock that MCO1 divides. MCO1SEL: 0 HSI, 1 LSE, which gives none, 2 HSE, 3 PLL1 Q, 4 HSI48.

@@ -4,10 +4,10 @@ ghost use Rattle.rules.specs.Manual.Tree as Tree;
 ghost use Rattle.rules.specs.Manual.Tree.{Oscillator, runs, switched, word as wordOf, fromOscillator};
 ghost use Rattle.exact.specs.Exact.{fedBy, readingOf};
 use crate::Reading;
-use crate::bank::HSEON;
-use crate::bank::HSIDIV;
-use crate::bank::HSION;
 use crate::bank::word;
+use fields::HSEON;
+use fields::HSIDIV;
+use fields::HSION;
 use types::Hertz;
 
 // The hertz of CSI, HSI48 and LSI.

@@ -6,13 +6,13 @@ ghost use Rattle.rules.specs.Manual.Tree as Tree;
 ghost use Rattle.rules.specs.Manual.Tree.{Output, number, pllWord, divider, fromOscillator};
 ghost use Rattle.exact.specs.Exact.{fedBy, readingOf};
 use crate::Reading;
-use crate::bank::CSION;
 use crate::bank::word;
 use crate::oscillators::CSI;
 use crate::oscillators::fixed;
 use crate::oscillators::hse;
 use crate::oscillators::hsi;
 use crate::steps;
+use fields::CSION;
 use types::Hertz;
 
 const M: usize = 2;

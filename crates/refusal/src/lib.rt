@@ -1,6 +1,7 @@
-// The number of each refusal, as document 01 has it.
+// The number of each refusal, as document 01 has it, and of an answer.
 ghost use mathlib.Core.Path.{_≡_};
-ghost use Rattle.rules.specs.Document01.Refusals.{numberOf};
+ghost use Rattle.rules.specs.Document01.Refusals.{numberOf, codeOf};
+use types::Answer;
 use types::Refusal;
 
 pub fn number_of(n: Refusal) -> u32
@@ -31,5 +32,15 @@ pub fn number_of(n: Refusal) -> u32
         Refusal::McoZero => 22,
         Refusal::McoRatio => 23,
         Refusal::CsiDown => 24,
+    }
+}
+
+// 0 for a plan, or the refusal's number.
+pub fn code_of(answer: Answer) -> u32
+    ensures { λ r. ⌜ r ≡ codeOf answer ⌝ }
+{
+    match answer {
+        Answer::Accepted => 0,
+        Answer::Refused(n) => number_of(n),
     }
 }

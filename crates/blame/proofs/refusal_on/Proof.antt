@@ -3,7 +3,8 @@ use mathlib.Core.Path.{ap, _∙_}
 use denote.Ref.{now}
 use borrow.Author.Needs.{needs}
 use Rattle.sheet.proofs.Length.{request-is-long}
-use Rattle.blame.specs.Blame.{codeOf, refusalOn}
+use Rattle.blame.specs.Blame.{refusalOn}
+use Rattle.rules.specs.Document01.Refusals.{codeOf}
 use Rattle.rules.specs.Document01.Plan.{planOf}
 use Rattle.types.specs.declared.Planned.{Planned}
 use Rattle.blame.proofs.refusal_on.Statement.{statement}

@@ -1,5 +1,7 @@
 -- Document 01, Who can cause which refusal: the number of each.
 use Prim.Native.Nat.{ℕ}
+use Rattle.types.specs.declared.Answer.{Answer}
+use Rattle.types.specs.declared.Answer.the-variants.{Accepted, Refused}
 use Rattle.types.specs.declared.Refusal.{Refusal}
 use Rattle.types.specs.declared.Refusal.the-variants.{OutsideCodes, BankLength, AboveLimit, McoHseUnstated, Pll1PUnlikeSystem, SourceZero, OutputZero, OutputsTooFarApart, OutputTooHigh, TargetOutside, NoM, NOutside, FracnOutside, PDividerAbove128, PDividerOdd, HsiOff, HsidivNot2, BusZero, AhbZero, Mco1Lse, McoNoOutput, McoZero, McoRatio, CsiDown}
 
@@ -29,3 +31,8 @@ numberOf McoNoOutput = 21
 numberOf McoZero = 22
 numberOf McoRatio = 23
 numberOf CsiDown = 24
+
+-- an answer as one number: 0 for a plan, or the refusal's
+abbrev pub codeOf : Answer → ℕ
+codeOf Accepted = 0
+codeOf (Refused n) = numberOf n

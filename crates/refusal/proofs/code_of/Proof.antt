@@ -1,7 +1,7 @@
--- `clock_api::code` meets its contract.
+-- `refusal::code_of` meets its contract.
 use borrow.Author.Needs.{needs}
-use Rattle.clock_api.proofs.code.Statement.{statement}
-use Rattle.clock_api.proofs.code.Tie as tie
+use Rattle.refusal.proofs.code_of.Statement.{statement}
+use Rattle.refusal.proofs.code_of.Tie as tie
 
 enum-told : tie.Need-enum-told
 enum-told c = search needs
@@ -18,5 +18,5 @@ returns c = search needs
 returns-2 : tie.Need-returns-2
 returns-2 c = rw (c .before .before .answer .given .1) (c .number-of .ensures)
 
-pub code-spec : {M : Type 1} → statement M
-code-spec = tie.close (tie.spec enum-told enum-known-answer number-of-requires returns returns-2)
+pub code-of-spec : {M : Type 1} → statement M
+code-of-spec = tie.close (tie.spec enum-told enum-known-answer number-of-requires returns returns-2)
