@@ -1,2 +1,4 @@
 pub mod Cap
 pub mod Chains
+pub mod Fits
+pub mod Within

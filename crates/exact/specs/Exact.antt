@@ -4,17 +4,10 @@ use mathlib.Core.List.{List, [], _∷_}
 use Prim.Native.Nat.{ℕ, _*_}
 use lib.Dec.{leb}
 use lib.ListN.{getD}
-use Rattle.types.specs.declared.Hertz.{Hertz}
-use Rattle.types.specs.declared.Hertz.the-variants.{Unset, Hz}
 use Rattle.rules.specs.Manual.Path.{num, den, pll1, pll2, pll3}
-use Rattle.rules.specs.Manual.Tree.{Oscillator, off, runs, Chain, none, along, P, Q, R, sys, hclk, pclk1, pclk2, pclk3, timx, timy, per, hsi, csi, hsi48, lsi, hse, mco1, mco2, output, pathOf}
+use Rattle.rules.specs.Manual.Tree.{Oscillator, Chain, none, along, P, Q, R, sys, hclk, pclk1, pclk2, pclk3, timx, timy, per, hsi, csi, hsi48, lsi, hse, mco1, mco2, output, pathOf}
 use Rattle.exact.specs.declared.Reading.{Reading}
 use Rattle.exact.specs.declared.Reading.the-variants.{Nothing, Exactly}
-
--- 'fed the bank's words and the request's HSE hertz': HSE, where it is stated
-abbrev pub fedBy : Hertz → Oscillator
-fedBy Unset = off
-fedBy (Hz h) = runs h
 
 -- the clocks of the report in its order (docs/CODES.md, The C functions). 'LSE gives none'; audio is no clock of the tree
 unfoldable pub clocksBy : List ℕ → Oscillator → List Chain
@@ -30,7 +23,7 @@ clocksBy bank fed =
 abbrev pub pathBy : List ℕ → Oscillator → ℕ → Chain
 pathBy bank fed k = getD (clocksBy bank fed) k none
 
--- 'two whole numbers', each as 64 bits hold it: one that does not fit shows as 2^64 − 1; no plan has one
+-- 'two whole numbers', each as 64 bits hold it: one that does not fit shows as 2^64 − 1, which no plan has (proofs/Fits)
 unfoldable pub cap : ℕ → ℕ
 cap n = cond (leb n 18_446_744_073_709_551_615) n 18_446_744_073_709_551_615
 

@@ -8,7 +8,8 @@ use lib.ListN.{getD, replicate}
 use borrow.Author.Tests.{eq-eqb, ne-eqb, le-leb, lt-leb}
 use Rattle.laws.proofs.Tests.{by-test}
 use Rattle.types.specs.declared.Hertz.{Hertz}
-use Rattle.exact.specs.Exact.{fedBy, pathBy, readingOf}
+use Rattle.rules.specs.Demands.Readings.{fedBy}
+use Rattle.exact.specs.Exact.{pathBy, readingOf}
 use Rattle.exact.specs.declared.Reading.{Reading}
 use Rattle.exact.specs.declared.Reading.the-variants.{Nothing, Exactly}
 use Rattle.view.specs.View.{wordAt, fromOf, divisorOf, oneIf, exactParts, lineOf}

@@ -6,7 +6,8 @@ use lib.Dec.{ltb, leb, eqb}
 use lib.ListN.{getD, replicate}
 use Rattle.types.specs.declared.Hertz.{Hertz}
 use Rattle.rules.specs.Document01.Fields
-use Rattle.exact.specs.Exact.{fedBy, pathBy, readingOf}
+use Rattle.rules.specs.Demands.Readings.{fedBy}
+use Rattle.exact.specs.Exact.{pathBy, readingOf}
 use Rattle.exact.specs.declared.Reading.{Reading}
 use Rattle.exact.specs.declared.Reading.the-variants.{Nothing, Exactly}
 
