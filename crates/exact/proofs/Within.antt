@@ -1,4 +1,4 @@
--- No word of the bank that a plan's whole list leaves of a bank at reset values is above what its field holds.
+-- In the bank that a plan's whole list leaves of a bank at reset values, M, N, FRACN, dividers and prescalers are at most what the rules choose.
 use mathlib.Core.Path.{_≡_, refl, ap, subst}
 use mathlib.Core.Bool.{Bool, true, false, cond, not, _&&_, _||_}
 use mathlib.Core.List.{List, [], _∷_, _++_}
