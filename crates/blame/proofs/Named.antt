@@ -11,7 +11,7 @@ use borrow.Author.Tests.{ltb-true, ltb-false, le-leb, ne-eqb, eqb-true, eqb-fals
 use Rattle.laws.proofs.Tests.{by-test, never, either, and-right, allBelow, at-each}
 use Rattle.rules.proofs.Computes.{byRules}
 use Rattle.text.specs.Names.{least}
-use Rattle.text.proofs.Least.{least-passes, last-passes}
+use Rattle.text.proofs.Least.{least-passes, last-passes, some-passes}
 use Rattle.sheet.specs.Sheet.{freshSheet, allZero, requestLength, chipOn}
 use Rattle.ask.specs.Table.{kinds, places}
 use Rattle.ask.specs.Sheet.{widthOf, withoutKey}
@@ -26,6 +26,34 @@ blamed-frees s h =
     by-test (ltb i 33)
     (λ (t : ltb i 33 ≡ true).
     eqb-false _ _ (not-true _ (and-right (leb (startFor (refusalOn s)) i) _ (least-passes (freedBy (withoutOne s) s) 33 (ltb-true i 33 t)))))
+    (λ (f : ltb i 33 ≡ false). let z = rw (List·getD-eq-default order 33 {n = i} (ltb-false i 33 f)) at h in absurd (omega arith))
+
+-- every key of the order is one
+named-below : (i : ℕ) → i < 33 → getD order i 33 < 33
+unfolding order
+named-below i h = ltb-true _ _ (at-each (λ i. ltb (getD order i 33) 33) 33 refl i h)
+
+-- ---- where no single word is told, leaving out one is not enough
+pub none-frees : (s : List ℕ) → blamedOf s ≡ 33 → (i : ℕ) → startFor (refusalOn s) ≤ i → i < 33 → refusalOn (withoutOne s i) ≡ refusalOn s
+unfolding blamedOf
+none-frees s e i h l =
+    let p = freedBy (withoutOne s) s in
+    by-test (eqb (refusalOn (withoutOne s i)) (refusalOn s))
+    (λ (t : eqb (refusalOn (withoutOne s i)) (refusalOn s) ≡ true). eqb-true _ _ t)
+    (λ (f : eqb (refusalOn (withoutOne s i)) (refusalOn s) ≡ false).
+    absurd (let z = named-below (least p 33) (some-passes p i (rw (le-leb (startFor (refusalOn s)) i h, f)) 33 l) in omega arith))
+
+-- and the last word told is one with which, and with those tried before it, the answer is another
+pub last-frees :
+    (s : List ℕ) → lastBlamedOf s < 33 →
+    (i : ℕ) × (lastBlamedOf s ≡ getD order i 33) × (refusalOn (withoutAll (startFor (refusalOn s)) s (i + 1)) ≡ refusalOn s → ⊥)
+unfolding lastBlamedOf order
+last-frees s h =
+    let a = startFor (refusalOn s) in
+    let p = freedBy (λ i. withoutAll a s (i + 1)) s in
+    let i = least p 33 in
+    by-test (ltb i 33)
+    (λ (t : ltb i 33 ≡ true). (i, refl, eqb-false _ _ (not-true _ (and-right (leb a i) _ (least-passes p 33 (ltb-true i 33 t))))))
     (λ (f : ltb i 33 ≡ false). let z = rw (List·getD-eq-default order 33 {n = i} (ltb-false i 33 f)) at h in absurd (omega arith))
 
 -- ---- a byte of a key that is taken away is that of a fresh sheet
@@ -101,7 +129,7 @@ unfolding refusalOn byRules requestLength allZero chipOn freshSheet
 gets-a-plan x = refl
 
 pub always-named : (s : List ℕ) → length s ≡ 115 → (refusalOn s ≡ 0 → ⊥) → lastBlamedOf s < 33
-unfolding lastBlamedOf order
+unfolding lastBlamedOf
 always-named s e d =
     let r = refusalOn s in
     let a = startFor r in
@@ -109,4 +137,4 @@ always-named s e d =
     let low : a ≤ 32 = either (λ m. m ≤ 32) hse 0 1 (omega arith) (omega arith) in
     let plan : refusalOn (withoutAll a s 33) ≡ 0 = rw (blank a s e (all-taken hse)) (gets-a-plan _) in
     let found = last-passes (freedBy (λ i. withoutAll a s (i + 1)) s) 32 (rw (le-leb a 32 low, plan, ne-eqb 0 r (λ q. d (sym q)))) in
-    ltb-true _ _ (at-each (λ i. ltb (getD order i 33) 33) 33 refl _ found)
+    named-below _ found

@@ -6,7 +6,6 @@ ghost use Rattle.rules.specs.Manual.Tree.{Chain, word as wordOf};
 ghost use Rattle.rules.specs.Demands.Readings.{fedBy};
 ghost use Rattle.exact.specs.Exact.{readingOf};
 use crate::Reading;
-use crate::bank::word;
 use crate::oscillators::CSI;
 use crate::oscillators::fixed;
 use crate::oscillators::hse;
@@ -18,6 +17,7 @@ use fields::CSION;
 use fields::HPRE;
 use fields::SW;
 use fields::TIMPRE;
+use fields::word;
 use types::Hertz;
 
 // SW: 0 HSI, 1 CSI, 2 HSE, 3 PLL1 P.

@@ -28,7 +28,6 @@ use pll::R;
 use pll::output;
 use types::Hertz;
 
-mod bank;
 mod buses;
 mod mco;
 mod oscillators;

@@ -6,7 +6,6 @@ ghost use Rattle.rules.specs.Manual.Tree.{Chain, word as wordOf};
 ghost use Rattle.rules.specs.Demands.Readings.{fedBy};
 ghost use Rattle.exact.specs.Exact.{readingOf};
 use crate::Reading;
-use crate::bank::word;
 use crate::buses::sys;
 use crate::oscillators::CSI;
 use crate::oscillators::HSI48;
@@ -20,6 +19,7 @@ use fields::HSI48ON;
 use fields::LSION;
 use fields::MCO1SEL;
 use fields::MCO2SEL;
+use fields::word;
 use types::Hertz;
 
 // The clock that MCO1 divides. MCO1SEL: 0 HSI, 1 LSE, which gives none, 2 HSE, 3 PLL1 Q, 4 HSI48.

@@ -5,10 +5,10 @@ ghost use Rattle.rules.specs.Manual.Tree.{Oscillator, runs, switched, word as w
 ghost use Rattle.rules.specs.Demands.Readings.{fedBy};
 ghost use Rattle.exact.specs.Exact.{readingOf};
 use crate::Reading;
-use crate::bank::word;
 use fields::HSEON;
 use fields::HSIDIV;
 use fields::HSION;
+use fields::word;
 use types::Hertz;
 
 // The hertz of CSI, HSI48 and LSI.

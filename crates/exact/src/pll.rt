@@ -7,13 +7,13 @@ ghost use Rattle.rules.specs.Manual.Tree.{Output, number, pllWord, divider, fro
 ghost use Rattle.rules.specs.Demands.Readings.{fedBy};
 ghost use Rattle.exact.specs.Exact.{readingOf};
 use crate::Reading;
-use crate::bank::word;
 use crate::oscillators::CSI;
 use crate::oscillators::fixed;
 use crate::oscillators::hse;
 use crate::oscillators::hsi;
 use crate::steps;
 use fields::CSION;
+use fields::word;
 use types::Hertz;
 
 const M: usize = 2;

@@ -1,10 +1,11 @@
-// Which word of the bank is which field, what a field takes where the plan's own number is not stored as it is, storing one, and a bank at
-// reset values.
+// Which word of the bank is which field, what a field takes where the plan's own number is not stored as it is, reading and storing one, and
+// a bank at reset values.
 ghost use mathlib.Core.Path.{_≡_};
 ghost use lib.ListN.{set};
 ghost use Prim.Native.Nat.{_-_};
 ghost use Rattle.rules.specs.Document01.Entries.{prftenOf, bit};
 ghost use Rattle.rules.specs.Document01.Bank.{resetBank};
+ghost use Rattle.rules.specs.Manual.Tree.{word as wordOf};
 
 // Document 01, Register entries: 15 fields per PLL. PLL k's words start at 15 * k, from PLL1 as 0.
 pub const VCOSEL: usize = 0;
@@ -133,6 +134,17 @@ pub fn bit_of(b: bool) -> u32
     ensures { λ r. ⌜ r ≡ bit b ⌝ }
 {
     if b { 1 } else { 0 }
+}
+
+// The word of a field; 0 where a bank has none.
+pub fn word(words: &[u32], f: usize) -> u32
+    ensures { λ r. ⌜ r ≡ wordOf (now (words .entry)) f ⌝ }
+{
+    if f < words.len() {
+        let w = words[f];
+        return w;
+    }
+    0
 }
 
 // Applying an entry changes only the fields it sets: the word at f becomes v. A bank that has no word f stays.

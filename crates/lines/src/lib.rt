@@ -3,21 +3,20 @@ ghost use mathlib.Core.Path.{_≡_};
 ghost use mathlib.Core.Bool.{cond, _||_};
 ghost use Prim.Native.Nat.{_+_, _%_};
 ghost use lib.Dec.{eqb};
-ghost use Rattle.lines.specs.Lines.{at, oneIf, pllLine, entryLine, wordLine, byteLine};
+ghost use Rattle.rules.specs.Document01.Entries.{bit};
+ghost use Rattle.rules.specs.Manual.Tree.{word as wordOf};
+ghost use Rattle.lines.specs.Lines.{pllLine, entryLine, wordLine, byteLine};
 
-// A word of a slice; 0 past its end.
+// A word, as a number of a line.
 fn word(s: &[u32], k: usize) -> u64
-    ensures { λ r. ⌜ r ≡ at (now (s .entry)) k ⌝ }
+    ensures { λ r. ⌜ r ≡ wordOf (now (s .entry)) k ⌝ }
 {
-    if k < s.len() {
-        return s[k] as u64;
-    }
-    0
+    fields::word(s, k) as u64
 }
 
 // 1 where two numbers are equal, else 0.
 fn same(x: usize, y: usize) -> u64
-    ensures { λ r. ⌜ r ≡ oneIf (eqb x y) ⌝ }
+    ensures { λ r. ⌜ r ≡ bit (eqb x y) ⌝ }
 {
     if x == y {
         return 1;
@@ -37,7 +36,7 @@ fn feed(src: u32) -> u64
 
 // 1 where byte i of n ends a row of thirty or is the last, else 0.
 fn ends(i: usize, n: usize) -> u64
-    ensures { λ r. ⌜ r ≡ oneIf (eqb (i % 30) 29 || eqb (i + 1) n) ⌝ }
+    ensures { λ r. ⌜ r ≡ bit (eqb (i % 30) 29 || eqb (i + 1) n) ⌝ }
 {
     if i % 30 == 29 {
         return 1;

@@ -45,3 +45,12 @@ module _ (p : ℕ → Bool) where
   pub last-passes : (n : ℕ) → p n ≡ true → least p (suc n) < suc n
   unfolding least
   last-passes n t = rw t (either (λ m. m < suc n) (ltb (least p n) n) _ _ (omega (arith, at-most n)) (omega arith))
+
+  -- one below n passes
+  pub some-passes : (k : ℕ) → p k ≡ true → (n : ℕ) → k < n → least p n < n
+  unfolding least
+  some-passes k t zero h = absurd (omega arith)
+  some-passes k t (suc n) h =
+      by-test (eqb k n)
+      (λ (q : eqb k n ≡ true). last-passes n (rw (← eqb-true k n q) t))
+      (λ (q : eqb k n ≡ false). let z = eqb-false k n q in let l = some-passes k t n (omega (arith, z)) in rw (lt-ltb (least p n) n l) (omega arith))

@@ -8,11 +8,13 @@ use lib.ListN.{getD, replicate}
 use borrow.Author.Tests.{eq-eqb, ne-eqb, le-leb, lt-leb}
 use Rattle.laws.proofs.Tests.{by-test}
 use Rattle.types.specs.declared.Hertz.{Hertz}
+use Rattle.rules.specs.Document01.Entries.{bit}
+use Rattle.rules.specs.Manual.Tree.{word}
 use Rattle.rules.specs.Demands.Readings.{fedBy}
 use Rattle.exact.specs.Exact.{pathBy, readingOf}
 use Rattle.exact.specs.declared.Reading.{Reading}
 use Rattle.exact.specs.declared.Reading.the-variants.{Nothing, Exactly}
-use Rattle.view.specs.View.{wordAt, fromOf, divisorOf, oneIf, exactParts, lineOf}
+use Rattle.view.specs.View.{fromOf, divisorOf, exactParts, lineOf}
 
 -- five numbers, one by one
 abbrev five : List ℕ → List ℕ
@@ -24,8 +26,8 @@ all-five known h (Exactly n d) = by-test (eqb d 0) (λ (t : eqb d 0 ≡ true). r
 
 module _ (report bank : List ℕ) (hse : Hertz) (k : ℕ) where
   pub line :
-      k ≤ 25 → (there hertz from known divisor : ℕ) (x : Reading) (e : List ℕ) → there ≡ wordAt report (2 * k) → hertz ≡ wordAt report (2 * k + 1) →
-      from ≡ fromOf bank k → known ≡ oneIf (not (eqb from 29)) → divisor ≡ divisorOf bank k → x ≡ readingOf (pathBy bank (fedBy hse) k) →
+      k ≤ 25 → (there hertz from known divisor : ℕ) (x : Reading) (e : List ℕ) → there ≡ word report (2 * k) → hertz ≡ word report (2 * k + 1) →
+      from ≡ fromOf bank k → known ≡ bit (not (eqb from 29)) → divisor ≡ divisorOf bank k → x ≡ readingOf (pathBy bank (fedBy hse) k) →
       e ≡ exactParts known hertz x → k ∷ there ∷ hertz ∷ from ∷ known ∷ divisor ∷ five e ≡ lineOf report bank hse k
   unfolding lineOf
   line h there hertz from known divisor x e e1 e2 e3 e4 e5 e6 e7 =
@@ -40,5 +42,5 @@ module _ (known h n d : ℕ) where
   pub no-den : d ≡ 0 → 0 ∷ 0 ∷ 0 ∷ 0 ∷ known ∷ [] ≡ exactParts known h (Exactly n d)
   no-den e = rw (eq-eqb d 0 e)
 
-  pub with-den : (d ≡ 0 → ⊥) → (t : ℕ) → t ≡ oneIf (not (eqb (n % d) 0 && eqb (n / d) h)) → t ∷ n / d ∷ n % d ∷ d ∷ 0 ∷ [] ≡ exactParts known h (Exactly n d)
+  pub with-den : (d ≡ 0 → ⊥) → (t : ℕ) → t ≡ bit (not (eqb (n % d) 0 && eqb (n / d) h)) → t ∷ n / d ∷ n % d ∷ d ∷ 0 ∷ [] ≡ exactParts known h (Exactly n d)
   with-den e t q = rw (ne-eqb d 0 e, q)

@@ -6,14 +6,12 @@ use lib.Dec.{ltb, leb, eqb}
 use lib.ListN.{getD, replicate}
 use Rattle.types.specs.declared.Hertz.{Hertz}
 use Rattle.rules.specs.Document01.Fields
+use Rattle.rules.specs.Document01.Entries.{bit}
+use Rattle.rules.specs.Manual.Tree.{word}
 use Rattle.rules.specs.Demands.Readings.{fedBy}
 use Rattle.exact.specs.Exact.{pathBy, readingOf}
 use Rattle.exact.specs.declared.Reading.{Reading}
 use Rattle.exact.specs.declared.Reading.the-variants.{Nothing, Exactly}
-
--- a word of a report or a bank
-abbrev pub wordAt : List ℕ → ℕ → ℕ
-wordAt b f = getD b f 0
 
 -- ---- where a clock comes from: the number of a clock, 26 to 28 for the VCOs, 29 for nothing
 -- SW: HSI, CSI, HSE, PLL1 P (document 01, The clock tree)
@@ -36,13 +34,13 @@ mco2Clock c = getD (0 ∷ 20 ∷ 12 ∷ 17 ∷ 9 ∷ 11 ∷ []) c 29
 -- three outputs from each VCO
 unfoldable pub fromOf : (bank : List ℕ) → (k : ℕ) → ℕ
 fromOf b k =
-    cond (eqb k 0) (swClock (wordAt b Fields.SW))
+    cond (eqb k 0) (swClock (word b Fields.SW))
     (cond (eqb k 1) 0
     (cond (leb k 6) 1
-    (cond (eqb k 7) (perClock (wordAt b Fields.CKPERSEL))
+    (cond (eqb k 7) (perClock (word b Fields.CKPERSEL))
     (cond (leb k 14) 29
-    (cond (eqb k 15) (mco1Clock (wordAt b Fields.MCO1SEL))
-    (cond (eqb k 16) (mco2Clock (wordAt b Fields.MCO2SEL)) (cond (leb k 25) (26 + (k - 17) / 3) 29)))))))
+    (cond (eqb k 15) (mco1Clock (word b Fields.MCO1SEL))
+    (cond (eqb k 16) (mco2Clock (word b Fields.MCO2SEL)) (cond (leb k 25) (26 + (k - 17) / 3) 29)))))))
 
 -- ---- what divides it; 0 for nothing
 -- a timer's one division, by TIMPRE and PPRE
@@ -53,16 +51,13 @@ timerDivisor t p = cond (eqb t 0) (cond (leb 4 p) (p / 2) 1) (cond (leb 8 p) (p 
 unfoldable pub divisorOf : (bank : List ℕ) → (k : ℕ) → ℕ
 divisorOf b k =
     cond (eqb k 0) 0
-    (cond (leb k 4) (wordAt b (60 + k))
-    (cond (leb k 6) (timerDivisor (wordAt b Fields.TIMPRE) (wordAt b (57 + k)))
+    (cond (leb k 4) (word b (60 + k))
+    (cond (leb k 6) (timerDivisor (word b Fields.TIMPRE) (word b (57 + k)))
     (cond (leb k 14) 0
-    (cond (eqb k 15) (wordAt b Fields.MCO1PRE)
-    (cond (eqb k 16) (wordAt b Fields.MCO2PRE) (cond (leb k 25) (wordAt b (15 * ((k - 17) / 3) + 2 * ((k - 17) % 3) + Fields.P) + 1) 0))))))
+    (cond (eqb k 15) (word b Fields.MCO1PRE)
+    (cond (eqb k 16) (word b Fields.MCO2PRE) (cond (leb k 25) (word b (15 * ((k - 17) / 3) + 2 * ((k - 17) % 3) + Fields.P) + 1) 0))))))
 
 -- ---- the line
-abbrev pub oneIf : Bool → ℕ
-oneIf t = cond t 1 0
-
 -- no exact fraction: from a PLL that is not started
 abbrev pub noParts : (known : ℕ) → List ℕ
 noParts known = 0 ∷ 0 ∷ 0 ∷ 0 ∷ known ∷ []
@@ -71,13 +66,13 @@ noParts known = 0 ∷ 0 ∷ 0 ∷ 0 ∷ known ∷ []
 -- and is none
 abbrev pub exactParts : (known hertz : ℕ) → Reading → List ℕ
 exactParts known h Nothing = noParts known
-exactParts known h (Exactly n d) = cond (eqb d 0) (noParts known) (oneIf (not (eqb (n % d) 0 && eqb (n / d) h)) ∷ n / d ∷ n % d ∷ d ∷ 0 ∷ [])
+exactParts known h (Exactly n d) = cond (eqb d 0) (noParts known) (bit (not (eqb (n % d) 0 && eqb (n / d) h)) ∷ n / d ∷ n % d ∷ d ∷ 0 ∷ [])
 
 -- clock k: its number, whether it is reported, its hertz, where it comes from and whether from anywhere, what divides it; then the parts
 abbrev pub clockLine : (report bank : List ℕ) → (hse : Hertz) → (k : ℕ) → List ℕ
 clockLine report bank hse k =
-    k ∷ wordAt report (2 * k) ∷ wordAt report (2 * k + 1) ∷ fromOf bank k ∷ oneIf (not (eqb (fromOf bank k) 29)) ∷ divisorOf bank k
-    ∷ exactParts (oneIf (not (eqb (fromOf bank k) 29))) (wordAt report (2 * k + 1)) (readingOf (pathBy bank (fedBy hse) k))
+    k ∷ word report (2 * k) ∷ word report (2 * k + 1) ∷ fromOf bank k ∷ bit (not (eqb (fromOf bank k) 29)) ∷ divisorOf bank k
+    ∷ exactParts (bit (not (eqb (fromOf bank k) 29))) (word report (2 * k + 1)) (readingOf (pathBy bank (fedBy hse) k))
 
 -- of the 26 that there are
 unfoldable pub lineOf : (report bank : List ℕ) → (hse : Hertz) → (k : ℕ) → List ℕ

@@ -2,21 +2,13 @@
 ghost use mathlib.Core.Path.{_≡_};
 ghost use mathlib.Core.Bool.{not, _&&_};
 ghost use lib.Dec.{eqb};
-ghost use Rattle.view.specs.View.{wordAt, oneIf, exactParts, lineOf};
+ghost use Rattle.rules.specs.Document01.Entries.{bit};
+ghost use Rattle.view.specs.View.{exactParts, lineOf};
 use exact::Reading;
+use fields::word;
 use types::Hertz;
 
 mod tree;
-
-// A word of a slice; 0 past its end.
-fn word(s: &[u32], k: usize) -> u32
-    ensures { λ r. ⌜ r ≡ wordAt (now (s .entry)) k ⌝ }
-{
-    if k < s.len() {
-        return s[k];
-    }
-    0
-}
 
 // The exact fraction beside the hertz.
 fn exact_parts(known: u64, hertz: u64, x: Reading) -> [u64; 5]
@@ -37,7 +29,7 @@ fn exact_parts(known: u64, hertz: u64, x: Reading) -> [u64; 5]
 
 // 1 where whole hertz with a rest are not the hertz, else 0.
 fn differs(rest: u64, whole: u64, hertz: u64) -> u64
-    ensures { λ r. ⌜ r ≡ oneIf (not (eqb rest 0 && eqb whole hertz)) ⌝ }
+    ensures { λ r. ⌜ r ≡ bit (not (eqb rest 0 && eqb whole hertz)) ⌝ }
 {
     if rest != 0 {
         return 1;
@@ -50,7 +42,7 @@ fn differs(rest: u64, whole: u64, hertz: u64) -> u64
 
 // 1 where a clock comes from anywhere, else 0.
 fn known_from(from: usize) -> u64
-    ensures { λ r. ⌜ r ≡ oneIf (not (eqb from 29)) ⌝ }
+    ensures { λ r. ⌜ r ≡ bit (not (eqb from 29)) ⌝ }
 {
     if from == 29 {
         return 0;

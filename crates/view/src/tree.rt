@@ -2,7 +2,7 @@
 ghost use mathlib.Core.Path.{_≡_};
 ghost use Prim.Native.Nat.{_<_};
 ghost use Rattle.view.specs.View.{swClock, perClock, mco1Clock, mco2Clock, fromOf, timerDivisor, divisorOf};
-use crate::word;
+use fields::word;
 
 fn sw_clock(code: u32) -> usize
     ensures { λ r. ⌜ r ≡ swClock code ⌝ }

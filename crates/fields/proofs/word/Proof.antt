@@ -1,10 +1,10 @@
--- `exact::bank::word` meets its contract.
+-- `fields::word` meets its contract.
 use mathlib.Core.Path.{sym}
 use denote.Ref.{now}
 use lib.ListN.{List·getD-eq-default}
 use borrow.Author.Needs.{needs}
-use Rattle.exact.proofs.bank.word.Statement.{statement}
-use Rattle.exact.proofs.bank.word.Tie as tie
+use Rattle.fields.proofs.word.Statement.{statement}
+use Rattle.fields.proofs.word.Tie as tie
 
 mul-w : tie.Need-mul-w
 mul-w c = search needs
@@ -16,7 +16,7 @@ returns : tie.Need-returns
 returns c = search needs
 
 returns-2 : tie.Need-returns-2
-returns-2 c = sym (List·getD-eq-default (now (c .before .args .bank)) 0 (c .if1 .left))
+returns-2 c = sym (List·getD-eq-default (now (c .before .args .words)) 0 (c .if1 .left))
 
 pub word-spec : {M : Type 1} → statement M
 word-spec = tie.close (tie.spec mul-w shared-slice-read-w returns returns-2)
