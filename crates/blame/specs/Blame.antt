@@ -10,8 +10,9 @@ use Rattle.text.specs.Names.{least}
 use Rattle.sheet.specs.Sheet.{requestLength, chipOn}
 use Rattle.ask.specs.Sheet.{withoutKey}
 
--- the order in which keys are tried: HSE; the outputs of the PLLs, their strategies, the clock outputs, the buses, the system clock, the
--- peripheral clock, HSE and its bypass, LSE, the audio clock, the chip's numbers, the PLL count, how many bytes are given
+-- the order in which keys are tried, by their numbers (crates/ask/specs/Table): hse | the outputs pll1.p pll1.q pll1.r, of PLL2, of PLL3 | the
+-- strategies pll1 pll2 pll3 | mco1 mco2 | ahb apb1 apb2 apb3 | sys | per | hse again, bypass | lse | audio | odd1 odd2 odd3 scale hsion hsidiv |
+-- chip | bytes
 unfoldable pub order : List ℕ
 order =
     0 ∷ 13 ∷ 14 ∷ 15 ∷ 17 ∷ 18 ∷ 19 ∷ 21 ∷ 22 ∷ 23 ∷ 12 ∷ 16 ∷ 20 ∷ 10 ∷ 11 ∷ 5 ∷ 6 ∷ 7 ∷ 8 ∷ 3 ∷ 4 ∷ 0 ∷ 9
