@@ -7,7 +7,7 @@ test:
 	scripts/check-api
 	scripts/make-help --check
 	rt fmt --check
-	scripts/build plan $$(sed -n 's/^clock_[a-z]*: //p' crates.txt)
+	scripts/build plan settings $$(sed -n 's/^clock_[a-z]*: //p' crates.txt)
 	scripts/check-host
 	scripts/check-plan
 	. scripts/quick && rt ci

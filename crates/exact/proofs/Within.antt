@@ -9,6 +9,8 @@ use lib.ListN.{set, getD, replicate}
 use borrow.Author.Tests.{leb-true, le-leb, lt-ltb}
 use Rattle.types.specs.declared.Hertz.{Hertz}
 use Rattle.types.specs.declared.Hertz.the-variants.{Unset, Hz}
+use Rattle.types.specs.declared.Strategy.{Strategy}
+use Rattle.types.specs.declared.Strategy.the-variants.{Integer, Fractional}
 use Rattle.types.specs.declared.Request.{Request}
 use Rattle.types.specs.declared.ChipState.{ChipState}
 use Rattle.types.specs.declared.PllOutput.{PllOutput}
@@ -35,7 +37,7 @@ use Rattle.rules.specs.Document01.Entries.{outputEntries, fractionEntries, base
 use Rattle.rules.specs.Document01.Bank.{applyAll, resetBank}
 use Rattle.rules.specs.Manual.Path.{PllName, pll1, pll2, pll3}
 use Rattle.rules.specs.Manual.Tree.{number, divider, enable, word}
-use Rattle.rules.specs.Demands.Legal.{LegalOutput, LegalVco, LegalPll, LegalPlan}
+use Rattle.rules.specs.Demands.Legal.{LegalOutput, LegalVco, LegalPll, LegalThird, LegalPlan}
 use Rattle.rules.proofs.Document01.Results.{Holds, holds-then, holds-next, holds-tested, holds-known}
 use Rattle.rules.proofs.Legal.Plan.{plan-legal}
 use Rattle.fields.proofs.Join.{apply-append}
@@ -99,14 +101,16 @@ module _ (j : PllName) where
   own i v l h w = put (15 * number j + i) v (rw (own-limit i l) h) w
 
   -- a divider and its enable
-  output-keeps : (i vco : ℕ) (o : PllOutput) → i < 14 → ((v : ℕ) → v ≤ 127 → under (pllLimit i) v ≡ true)
-      → ((v : ℕ) → under (pllLimit (suc i)) v ≡ true) → LegalOutput vco o → Keeps (outputEntries (15 * number j + i) (15 * number j + suc i) o)
-  output-keeps i vco Off l h f g = by λ b w. own (suc i) 0 (omega arith) (f 0) w
-  output-keeps i vco (On d c) l h f g = by λ b w. own (suc i) 1 (omega arith) (f 1) (own i (d - 1) (omega arith) (h (d - 1) (g .field)) w)
+  output-keeps : (i vco : ℕ) (r : Hertz) (o : PllOutput) → i < 14 → ((v : ℕ) → v ≤ 127 → under (pllLimit i) v ≡ true)
+      → ((v : ℕ) → under (pllLimit (suc i)) v ≡ true) → LegalOutput vco r o → Keeps (outputEntries (15 * number j + i) (15 * number j + suc i) o)
+  output-keeps i vco r Off l h f g = by λ b w. own (suc i) 0 (omega arith) (f 0) w
+  output-keeps i vco Unset (On d c) l h f g = absurd g
+  output-keeps i vco (Hz r) (On d c) l h f g = by λ b w. own (suc i) 1 (omega arith) (f 1) (own i (d - 1) (omega arith) (h (d - 1) (g .field)) w)
 
-  fraction-keeps : (first : ℕ) (s : PllSettings) (x : Fraction) → LegalVco first s x → Keeps (fractionEntries (number j) x)
-  fraction-keeps first s Whole l = by λ b w. w
-  fraction-keeps first s (Part f) l =
+  fraction-keeps : (t : Strategy) (source first : ℕ) (s : PllSettings) (x : Fraction) → LegalVco t source first s x → Keeps (fractionEntries (number j) x)
+  fraction-keeps t source first s Whole l = by λ b w. w
+  fraction-keeps Integer source first s (Part f) l = absurd l
+  fraction-keeps Fractional source first s (Part f) l =
       by λ b w. own 5 1 (omega arith) refl (own 5 0 (omega arith) refl (own 4 f (omega arith) (le-leb f 8191 (l .field)) w))
 
   setup-keeps : (odd : Bool) (source : ℕ) (a : PllRequest) (x : Pll) → LegalPll odd source a x → Keeps (setupEntries (number j) x)
@@ -116,10 +120,14 @@ module _ (j : PllName) where
       let base : Keeps (baseEntries (number j) s) =
       by λ b w. own 3 (s .n - 1) (omega arith) (le-leb _ 511 (l .n .to)) (own 2 (s .m) (omega arith) (le-leb _ 63 (l .m .to))
       (own 1 (s .rge) (omega arith) refl (own 0 (s .vcosel) (omega arith) refl w))) in
-      base then fraction-keeps (firstOf a) s (s .fraction) (l .vco)
-      then output-keeps 6 (s .vco) (s .p) (omega arith) (λ v. le-leb v 127) (λ v. refl) (l .p)
-      then output-keeps 8 (s .vco) (s .q) (omega arith) (λ v. le-leb v 127) (λ v. refl) (l .q)
-      then output-keeps 10 (s .vco) (s .r) (omega arith) (λ v. le-leb v 127) (λ v. refl) (l .r)
+      base then fraction-keeps (a .strategy) source (firstOf a) s (s .fraction) (l .vco)
+      then output-keeps 6 (s .vco) (a .p) (s .p) (omega arith) (λ v. le-leb v 127) (λ v. refl) (l .p)
+      then output-keeps 8 (s .vco) (a .q) (s .q) (omega arith) (λ v. le-leb v 127) (λ v. refl) (l .q)
+      then output-keeps 10 (s .vco) (a .r) (s .r) (omega arith) (λ v. le-leb v 127) (λ v. refl) (l .r)
+
+  third-keeps : (three odd : Bool) (source : ℕ) (a : PllRequest) (x : Pll) → LegalThird three odd source a x → Keeps (setupEntries (number j) x)
+  third-keeps true odd source a x l = setup-keeps odd source a x l
+  third-keeps false odd source a x l = rw l (by λ b w. w)
 
   start-keeps : (x : Pll) → Keeps (startEntries (number j) x)
   start-keeps Idle = by λ b w. w
@@ -231,7 +239,7 @@ unfolding planEntries
 plan-keeps q c p l h =
     setup-keeps pll1 (c .odd1) (sourceOf q) (askedOf q 0) (pllIn p 0) (l .pll1)
     then setup-keeps pll2 (c .odd2) (sourceOf q) (askedOf q 1) (pllIn p 1) (l .pll2)
-    then setup-keeps pll3 (c .odd3) (sourceOf q) (askedOf q 2) (pllIn p 2) (l .pll3)
+    then third-keeps pll3 (c .three) (c .odd3) (sourceOf q) (askedOf q 2) (pllIn p 2) (l .pll3)
     then h .0 then hse-keeps p (p .hse) then source-keeps p (p .three)
     then start-keeps pll1 (pllIn p 0) then start-keeps pll2 (pllIn p 1) then start-keeps pll3 (pllIn p 2) then h .1
 

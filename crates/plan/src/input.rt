@@ -57,16 +57,15 @@ pub fn gather(words: &mut [u8]) -> usize {
     at
 }
 
-// 0 for no words, 1 for help, 2 for settings, 3 for a request.
+// 0 for no words, 1 for help, 2 for a request.
 pub fn first(words: &[u8]) -> usize {
     if words.len() == 0 {
         return 0;
     }
     let end = text::find(words, b' ');
-    match text::name_number(b"help        settings    ", &words[..end]) {
+    match text::name_number(b"help        ", &words[..end]) {
         0 => 1,
-        1 => 2,
-        _ => 3,
+        _ => 2,
     }
 }
 

@@ -5,7 +5,6 @@ mod list;
 mod page;
 mod print;
 mod refused;
-mod settings;
 mod wrong;
 
 fn main() {
@@ -18,12 +17,11 @@ fn main() {
     print::say(b"plan: the words take more than 4095 bytes\n");
 }
 
-// Help, the bench settings, or a request.
+// Help, or a request.
 fn run(words: &[u8]) {
     match input::first(words) {
         0 => wrong::usage(),
         1 => input::help(words),
-        2 => settings::all(),
         _ => plan(words),
     }
 }

@@ -81,14 +81,3 @@ pub fn show(sheet: [u8; 115]) {
     }
     list::show(x, bank, &sheet);
 }
-
-// The plan, or the refusal without its page.
-pub fn short(sheet: [u8; 115]) {
-    let mut bank = fields::reset_bank();
-    let x = ask_planner(&sheet, &mut bank);
-    let a = x.answer;
-    match a {
-        Answer::Accepted => plan(x, bank),
-        Answer::Refused(m) => refused::show(sheet, refusal::number_of(m)),
-    }
-}

@@ -4,6 +4,8 @@ ghost use lib.ListN.{length};
 ghost use Rattle.rules.specs.Document01.Plan.{planOf, bankPlanOf};
 ghost use Rattle.rules.specs.Document01.Entries.{entriesOf};
 ghost use Rattle.rules.specs.Document01.Bank.{applyAll};
+ghost use Rattle.rules.specs.Demands.Rows.{AsRows};
+ghost use Rattle.rules.specs.Demands.Refused.{planRows, bankRows};
 ghost use Rattle.rules.specs.Demands.Calls.{ByPlan, ByBank, Answered, Kept, AsFreeze, IsLegal, ReadTwice, BankReadTwice};
 use types::Chip;
 use types::Planned;
@@ -16,6 +18,7 @@ pub fn plan(request: &[u8], chip: Chip) -> Planned
     ensures freeze { λ r. ⌜ AsFreeze (now (request .entry)) chip r ⌝ }
     ensures legal { λ r. ⌜ IsLegal (now (request .entry)) chip r ⌝ }
     ensures readings { λ r. ⌜ ReadTwice (now (request .entry)) chip r ⌝ }
+    ensures order { λ r. ⌜ AsRows (planRows (now (request .entry)) chip) (r .answer) ⌝ }
 {
     let asked = request::read_request(request, chip);
     let q = asked.request;
@@ -35,6 +38,7 @@ pub fn plan_bank(request: &[u8], chip: Chip, bank: &mut [u32]) -> Planned
     ensures freeze { λ r. ⌜ (length (now (bank .entry)) ≡ 82 → AsFreeze (now (request .entry)) chip r) ⌝ }
     ensures legal { λ r. ⌜ IsLegal (now (request .entry)) chip r ⌝ }
     ensures readings { λ r. ⌜ BankReadTwice (now (request .entry)) chip r (now (bank .entry)) (now (bank .exit)) ⌝ }
+    ensures order { λ r. ⌜ AsRows (bankRows (now (request .entry)) chip (length (now (bank .entry)))) (r .answer) ⌝ }
 {
     let typed = request::read_request(request, chip);
     if !typed.read {

@@ -12,9 +12,12 @@ pub mod Setup
 pub mod Settle
 pub mod OnePll
 pub mod Plls
+pub mod Causes
+pub mod Allowed
 pub mod Split
 pub mod Writes
 pub mod Whole
+pub mod Walk
 pub mod Departures
 pub mod ResetReason
 pub mod Pwr

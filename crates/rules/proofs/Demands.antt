@@ -6,6 +6,7 @@ use mathlib.Core.List.{List, []}
 use Prim.Native.Nat.{ℕ}
 use native.Mathlib.Omega.{arith}
 use lib.Dec.{eqb}
+use Rattle.types.specs.declared.Entry.{Entry}
 use Rattle.types.specs.declared.Chip.{Chip}
 use Rattle.types.specs.declared.Refusal.{Refusal}
 use Rattle.types.specs.declared.Refusal.the-variants.{BankLength}
@@ -16,13 +17,23 @@ use Rattle.rules.specs.Document01.Result.{Result, refused, ok, _>>=_, _>
 use Rattle.rules.specs.Document01.Plan.{blankPlan, chosenPlan, answered, answerTo, Asked, requestOf, planOf, bankPlanOf}
 use Rattle.rules.specs.Document01.Entries.{entriesOf}
 use Rattle.rules.specs.Document01.Bank.{applyAll}
+use Rattle.rules.specs.Document01.Walk.{freshOf}
+use Rattle.rules.specs.Rust.Run.{ends}
+use Rattle.rules.specs.Rust.CoreClocks.{CoreClocks}
+use Rattle.rules.specs.Rust.Rcc.{frozen}
+use Rattle.rules.specs.Demands.Agreement.{AllowsEachP}
+use Rattle.rules.specs.Demands.Walks.{ShowsAll}
 use Rattle.rules.specs.Demands.Legal.{LegalPlan}
 use Rattle.rules.specs.Demands.Readings.{BankReads}
 use Rattle.rules.specs.Demands.Calls.{ByPlan, ByBank, Answered, Kept, AsFreeze, IsLegal, ReadTwice, BankReadTwice}
+use Rattle.rules.specs.Demands.Rows.{AsRows}
+use Rattle.rules.specs.Demands.Refused.{planRows, bankRows}
+use Rattle.rules.proofs.Refused.Calls.{plan-rows, bank-rows}
 use Rattle.rules.proofs.Document01.RefusalsOfCalls.{plan-numbers, bank-numbers}
 use Rattle.rules.proofs.Document01.Length.{accepted-length}
 use Rattle.rules.proofs.Legal.Plan.{plan-legal}
 use Rattle.rules.proofs.Agreement.Whole.{agreement}
+use Rattle.rules.proofs.Agreement.Walk.{walk-is-freeze}
 use Rattle.rules.proofs.Readings.Link.{plan-reads, bank-reads}
 
 -- bytes that are a request are answered as that request
@@ -84,12 +95,23 @@ demand-1-bank bytes chip words = record {
 pub demand-1-kept : (x : Planned) (b b₁ : List ℕ) → b₁ ≡ applyAll (entriesOf x) b → Kept x b b₁
 demand-1-kept x b b₁ e n h = e ∙ rw (no-entry x n h)
 
+-- the refusal is the first of document 01's that fits, by the rows of specs/Demands/Refused
+pub demand-1-first : (bytes : List ℕ) (chip : Chip) → AsRows (planRows bytes chip) (planOf bytes chip .answer)
+demand-1-first bytes chip = plan-rows bytes chip
+
+pub demand-1-first-bank : (bytes : List ℕ) (chip : Chip) (words : ℕ) → AsRows (bankRows bytes chip words) (bankPlanOf bytes chip words .answer)
+demand-1-first-bank bytes chip words = bank-rows bytes chip words
+
 -- ---- demand 2: equal to Rcc::freeze, save 14 and 15, and legal by the manuals and IEEE 754
 pub demand-2 : (bytes : List ℕ) (chip : Chip) → AsFreeze bytes chip (planOf bytes chip)
 demand-2 bytes chip a e = rw (typed bytes chip a e) (agreement (a .request) (a .chip))
 
 pub demand-2-bank : (bytes : List ℕ) (chip : Chip) (words : ℕ) → words ≡ 82 → AsFreeze bytes chip (bankPlanOf bytes chip words)
 demand-2-bank bytes chip words w = rw (w, with-bank bytes chip) (demand-2 bytes chip)
+
+-- and where freeze ends and the manual allows every P that it wrote, the walk shows freeze's own list, entry by entry, and then finished
+pub demand-2-walk : (bytes : List ℕ) (chip : Chip) (a : Asked) → requestOf bytes chip ≡ ok a → (es : List Entry) (k : CoreClocks) → frozen (a .request) (a .chip) ≡ ends es k → AllowsEachP (a .chip) es → ShowsAll (freshOf (planOf bytes chip)) es
+demand-2-walk bytes chip a e = walk-is-freeze (a .request) (a .chip) (planOf bytes chip) (frozen (a .request) (a .chip)) (demand-2 bytes chip a e)
 
 pub demand-2-legal : (bytes : List ℕ) (chip : Chip) → IsLegal bytes chip (planOf bytes chip)
 demand-2-legal bytes chip a e = rw (typed bytes chip a e) (plan-legal (a .request) (a .chip))

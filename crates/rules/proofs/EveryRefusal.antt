@@ -17,7 +17,7 @@ use Rattle.rules.specs.Document01.Refusals.{numberOf}
 use Rattle.rules.specs.Document01.Bytes.{requestBytes}
 use Rattle.rules.specs.Document01.Plan.{planOf, bankPlanOf}
 use Rattle.rules.proofs.Computes.{byRules}
-use Rattle.rules.proofs.Samples.{pll, none, asking, clocks, plls, onHsi, onHse, system, mco1From, nothing, chip}
+use Rattle.rules.proofs.Samples.{pll, none, asking, clocks, plls, onHsi, onHse, system, mco1From, nothing, chip, chip7}
 
 abbrev number : Answer → ℕ
 number Accepted = 0
@@ -104,9 +104,6 @@ of-length plls n = number (planOf (replicate n 0) (chip plls 1) .answer)
 
 abbrev for-chip : Chip → ℕ
 for-chip c = number (planOf (replicate 90 0) c .answer)
-
-abbrev chip7 : (plls odd1 odd2 odd3 scale hsion hsidiv : ℕ) → Chip
-chip7 plls odd1 odd2 odd3 scale hsion hsidiv = record { plls = plls; odd1 = odd1; odd2 = odd2; odd3 = odd3; scale = scale; hsion = hsion; hsidiv = hsidiv }
 
 -- a set byte, the number of an unset hertz, flag, MCO sources, strategies
 pub bytes-judged : with-byte 0 0 ∷ with-byte 0 2 ∷ with-byte 1 1 ∷ with-byte 4 1 ∷ with-byte 45 1 ∷ with-byte 45 2 ∷ with-byte 46 4 ∷ with-byte 46 5 ∷ with-byte 52 5 ∷ with-byte 52 6 ∷ with-byte 58 1 ∷ with-byte 58 2 ∷ with-byte 74 2 ∷ []

@@ -8,4 +8,7 @@ pub mod Computes
 pub mod Settings
 pub mod EveryRefusal
 pub mod Differences
+pub mod Refused
+pub mod Stated
+pub mod Unweakened
 pub mod Demands

@@ -17,7 +17,7 @@ use Rattle.types.specs.declared.Plan.{Plan}
 use Rattle.rules.specs.Document01.Bytes.{requestBytes}
 use Rattle.rules.specs.Document01.Plan.{planOf}
 use Rattle.rules.proofs.Computes.{byRules}
-use Rattle.rules.proofs.Samples.{pll, none, clocks, onHsi, onHse, system, mco1From, chip, look, inPll1, inPll2}
+use Rattle.rules.proofs.Samples.{pll, none, clocks, onHsi, onHse, system, mco1From, chip, Found, plan, refusal, look, inPll1, inPll2}
 
 -- ---- what is looked at
 -- M, N, FRACN and divider, by settings
@@ -68,18 +68,19 @@ latency p = p .latency ∷ []
 abbrev mco1 : Plan → List ℕ
 mco1 p = p .mco1pre ∷ []
 
--- ---- a setting: its request, odd P allowed (1) or forbidden (0), what is looked at, and what is stated of it; of a refusal, its number
+-- ---- a setting: its request, odd P allowed (1) or forbidden (0), what is looked at, and what is stated of it: a plan with these numbers, or a
+-- refusal
 pub record Setting : Type 0 where
   pub request : Request
   pub odd : ℕ
   pub looks : Plan → List ℕ
-  pub stated : List ℕ
+  pub stated : Found
 
 abbrev is : Request → ℕ → (Plan → List ℕ) → List ℕ → Setting
-is q odd looks stated = record { request = q; odd = odd; looks = looks; stated = stated }
+is q odd looks numbers = record { request = q; odd = odd; looks = looks; stated = plan numbers }
 
 abbrev refused : Request → ℕ → ℕ → Setting
-refused q odd number = is q odd (λ p. []) (number ∷ [])
+refused q odd number = record { request = q; odd = odd; looks = λ p. []; stated = refusal number }
 
 abbrev pub settings : List Setting
 settings =
@@ -124,10 +125,10 @@ settings =
     ∷ []
 
 -- ---- what the planner's call answers
-abbrev onTwo : Setting → List ℕ
+abbrev onTwo : Setting → Found
 onTwo s = look (s .looks) (planOf (requestBytes false (s .request)) (chip 2 (s .odd)))
 
-abbrev onThree : Setting → List ℕ
+abbrev onThree : Setting → Found
 onThree s = look (s .looks) (planOf (requestBytes true (s .request)) (chip 3 (s .odd)))
 
 pub bench : map onTwo settings ++ map onThree settings ≡ map (λ s. s .stated) settings ++ map (λ s. s .stated) settings

@@ -1,7 +1,12 @@
 -- What is promised of every answer.
-pub mod Report
-pub mod Legal
-pub mod Agreement
-pub mod Readings
 pub mod Calls
+pub mod Rows
+pub mod Refused
+pub mod Quantities
+pub mod ByPlaces
+pub mod Agreement
+pub mod Legal
+pub mod Readings
+pub mod Report
 pub mod Walks
+pub mod Applied

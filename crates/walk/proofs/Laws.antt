@@ -2,7 +2,7 @@
 -- of every walk (proofs/Document01/Walk) holds of the records.
 use mathlib.Core.Path.{_≡_, refl, _∙_, ap}
 use mathlib.Core.Bool.{Bool, true, false, cond}
-use mathlib.Core.List.{List, [], _∷_}
+use mathlib.Core.List.{List, [], _∷_, _++_, map}
 use Prim.Native.Nat.{ℕ, zero, suc, _+_}
 use native.Mathlib.Omega.{arith}
 use lib.ListN.{drop}
@@ -12,10 +12,19 @@ use Rattle.types.specs.declared.Answer.{Answer}
 use Rattle.types.specs.declared.Answer.the-variants.{Accepted, Refused}
 use Rattle.types.specs.declared.Plan.{Plan}
 use Rattle.types.specs.declared.Planned.{Planned}
+use Rattle.types.specs.declared.Chip.{Chip}
 use Rattle.types.specs.declared.Shown.{Shown}
+use Rattle.types.specs.declared.Shown.the-variants.{Next, Finished}
+use Rattle.rules.specs.Document01.Result.{ok}
+use Rattle.rules.specs.Document01.Plan.{Asked, requestOf, planOf}
 use Rattle.rules.specs.Document01.Entries.{entriesOf, answerEntries, planEntries}
 use Rattle.rules.specs.Document01.Walk.{Stand, before, ended, shownOf, passes, isCheck, steppedOf, freshBy, freshOf}
-use Rattle.rules.specs.Demands.Walks.{Pair, shows}
+use Rattle.rules.specs.Rust.Run.{ends}
+use Rattle.rules.specs.Rust.CoreClocks.{CoreClocks}
+use Rattle.rules.specs.Rust.Rcc.{frozen}
+use Rattle.rules.specs.Demands.Agreement.{AllowsEachP}
+use Rattle.rules.specs.Demands.Walks.{Pair, shows, Satisfy}
+use Rattle.rules.proofs.Demands.{demand-2-walk}
 use Rattle.walk.specs.declared.Walk.{Walk}
 use Rattle.walk.specs.Walk.{freshWalk, standAt, standOf, steppedBy, steppedWalk}
 
@@ -79,3 +88,9 @@ shows-from w s (r ∷ rs) e = rw (shows-from (steppedWalk w (r .a) (r .b)) (step
 -- is what document 01's walk shows
 pub shows-as : (x : Planned) (rs : List Pair) → recordShows (freshWalk x) rs ≡ shows steppedOf (freshOf x) rs
 shows-as x rs = shows-from (freshWalk x) (freshOf x) rs (fresh-stands x)
+
+-- ---- and so it ends at the Rust: where freeze ends and the manual allows every P that it wrote, a fresh record shows freeze's own list over reads
+-- that pass each of its operations, entry by entry, and then finished
+pub shows-freeze : (bytes : List ℕ) (chip : Chip) (a : Asked) → requestOf bytes chip ≡ ok a → (es : List Entry) (k : CoreClocks) → frozen (a .request) (a .chip) ≡ ends es k → AllowsEachP (a .chip) es
+    → (rs : List Pair) → Satisfy es rs → recordShows (freshWalk (planOf bytes chip)) rs ≡ map Next es ++ (Finished ∷ [])
+shows-freeze bytes chip a e es k f l rs p = shows-as (planOf bytes chip) rs ∙ demand-2-walk bytes chip a e es k f l rs p

@@ -1,8 +1,11 @@
 -- How a step of the rules and a run of the Rust agree, and that steps that agree may follow one another.
 use mathlib.Core.Path.{_≡_, refl, ap, _∙_}
 use mathlib.Core.List.{List, [], _∷_, _++_, append-assoc}
-use Prim.Native.Nat.{ℕ, _-_}
 use mathlib.Core.Bool.{Bool}
+use Prim.Native.Nat.{ℕ, _-_}
+use Rattle.types.specs.declared.PllRequest.{PllRequest}
+use Rattle.types.specs.declared.Request.{Request}
+use Rattle.types.specs.declared.ChipState.{ChipState}
 use Rattle.types.specs.declared.Entry.{Entry}
 use Rattle.types.specs.declared.Entry.the-variants.{Set}
 use Rattle.types.specs.declared.Refusal.{Refusal}
@@ -12,7 +15,7 @@ use Rattle.rules.specs.Document01.Fields
 use Rattle.rules.specs.Document01.Fields.{ofPll}
 use Rattle.rules.proofs.Document01.Results.{Holds}
 use Rattle.rules.specs.Rust.Run.{Outcome, panics, ends, Run, continue, as-u8}
-use Rattle.rules.specs.Demands.Agreement.{Departure}
+use Rattle.rules.specs.Demands.Agreement.{dividerFor, WrittenAt, Departure}
 use Rattle.rules.proofs.Agreement.Keeps.{Keeps, panicking, ending}
 
 -- values agree as R says; a refusal meets a panic, or the Rust ends all the same and D holds of its operations
@@ -30,24 +33,32 @@ abbrev pub Agree : {A B : Type 0} → (A → List Entry → B → Type 0) → Re
 Agree R x o = AgreeOr noEnd R x o
 
 -- a refusal meets a panic or a departure
-abbrev pub AgreeOrDepart : {A B : Type 0} → (ℕ → Bool) → (A → List Entry → B → Type 0) → Result A → Outcome B → Type 0
-AgreeOrDepart odd R x o = AgreeOr (Departure odd) R x o
+abbrev pub AgreeOrDepart : {A B : Type 0} → Request → ChipState → (A → List Entry → B → Type 0) → Result A → Outcome B → Type 0
+AgreeOrDepart q c R x o = AgreeOr (Departure q c) R x o
 
 -- ---- a departure stays one, with one operation more
-pub departs-still : (odd : ℕ → Bool) (n : Refusal) (e : Entry) (es : List Entry) → Departure odd n es → Departure odd n (es ++ (e ∷ []))
-departs-still odd n e es d = record {
-  pll = d .pll;
-  divider = d .divider;
-  which = d .which;
+pub written-still : (k : ℕ) (odd : Bool) (a : PllRequest) (n : Refusal) (e : Entry) (es : List Entry) → WrittenAt k odd a n es → WrittenAt k odd a n (es ++ (e ∷ []))
+written-still k odd a n e es d = record {
+  why = d .why;
   before = d .before;
   after = d .after ++ (e ∷ []);
-  written = ap (λ (l : List Entry). l ++ (e ∷ [])) (d .written) ∙ append-assoc (d .before) (Set (ofPll (d .pll) Fields.P) (as-u8 (d .divider - 1)) ∷ d .after) (e ∷ []);
+  written = ap (λ (l : List Entry). l ++ (e ∷ [])) (d .written) ∙ append-assoc (d .before) (Set (ofPll k Fields.P) (as-u8 (dividerFor odd a - 1)) ∷ d .after) (e ∷ []);
   forbidden = d .forbidden;
 }
 
-pub departed : {A B : Type 0} (odd : ℕ → Bool) (R : A → List Entry → B → Type 0) (n : Refusal) {o : Outcome B} → Keeps (Departure odd n) o → AgreeOrDepart odd R (refused n) o
-departed odd R n panicking = tt
-departed odd R n (ending d) = d
+pub departs-still : (q : Request) (c : ChipState) (n : Refusal) (e : Entry) (es : List Entry) → Departure q c n es → Departure q c n (es ++ (e ∷ []))
+departs-still q c n e es d = record { pll = d .pll; there = d .there; at = written-still (d .pll) _ _ n e es (d .at) }
+
+pub departed : {A B : Type 0} (D : Refusal → List Entry → Type 0) (R : A → List Entry → B → Type 0) (n : Refusal) {o : Outcome B} → Keeps (D n) o → AgreeOr D R (refused n) o
+departed D R n panicking = tt
+departed D R n (ending d) = d
+
+-- what departs in one way departs in another
+pub departs-too : {A B : Type 0} (D E : Refusal → List Entry → Type 0) (R : A → List Entry → B → Type 0) (x : Result A) (o : Outcome B) → ((n : Refusal) (es : List Entry) → D n es → E n es) → AgreeOr D R x o → AgreeOr E R x o
+departs-too D E R (refused n) panics f h = tt
+departs-too D E R (refused n) (ends es b) f h = f n es h
+departs-too D E R (ok a) panics f h = h
+departs-too D E R (ok a) (ends es b) f h = h
 
 -- ---- a step, then the next
 module _ {A B C D : Type 0} where
@@ -62,12 +73,12 @@ module _ {A B C D : Type 0} where
     agree-then h f = then-by noEnd noEnd R S x o k l h (λ n es b e. absurd e) f
 
     -- the next may depart
-    pub agree-then-depart : (odd : ℕ → Bool) → Agree R x o → ((a : A) (es : List Entry) (b : B) → R a es b → AgreeOrDepart odd S (k a) (l b es)) → AgreeOrDepart odd S (Rules._>>=_ x k) (continue o l)
-    agree-then-depart odd h f = then-by noEnd (Departure odd) R S x o k l h (λ n es b e. absurd e) f
+    pub agree-then-depart : (E : Refusal → List Entry → Type 0) → Agree R x o → ((a : A) (es : List Entry) (b : B) → R a es b → AgreeOr E S (k a) (l b es)) → AgreeOr E S (Rules._>>=_ x k) (continue o l)
+    agree-then-depart E h f = then-by noEnd E R S x o k l h (λ n es b e. absurd e) f
 
     -- the first may depart too: what follows then takes no operation back
-    pub depart-then : (odd : ℕ → Bool) → AgreeOrDepart odd R x o → ((n : Refusal) (es : List Entry) (b : B) → Departure odd n es → Keeps (Departure odd n) (l b es)) → ((a : A) (es : List Entry) (b : B) → R a es b → AgreeOrDepart odd S (k a) (l b es)) → AgreeOrDepart odd S (Rules._>>=_ x k) (continue o l)
-    depart-then odd h g f = then-by (Departure odd) (Departure odd) R S x o k l h (λ n es b d. departed odd S n (g n es b d)) f
+    pub depart-then : (E : Refusal → List Entry → Type 0) → AgreeOr E R x o → ((n : Refusal) (es : List Entry) (b : B) → E n es → Keeps (E n) (l b es)) → ((a : A) (es : List Entry) (b : B) → R a es b → AgreeOr E S (k a) (l b es)) → AgreeOr E S (Rules._>>=_ x k) (continue o l)
+    depart-then E h g f = then-by E E R S x o k l h (λ n es b d. departed E S n (g n es b d)) f
 
 -- where every continuation panics, so does the whole
 pub all-panic : {A B : Type 0} (o : Outcome A) (k : A → Run B) → ((a : A) (es : List Entry) → k a es ≡ panics) → continue o k ≡ panics

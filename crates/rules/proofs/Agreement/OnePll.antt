@@ -12,6 +12,7 @@ use Rattle.types.specs.declared.Hertz.the-variants.{Unset, Hz}
 use Rattle.types.specs.declared.PllRequest.{PllRequest}
 use Rattle.types.specs.declared.PllSettings.{PllSettings}
 use Rattle.types.specs.declared.Pll.{Pll}
+use Rattle.types.specs.declared.Refusal.{Refusal}
 use Rattle.types.specs.declared.FoundM.{FoundM}
 use Rattle.types.specs.declared.FoundM.the-variants.{Nothing, M}
 use Rattle.rules.specs.Document01.ChoiceOfM.{chosenM, Admissible}
@@ -28,23 +29,24 @@ use Rattle.rules.specs.Rust.CoreClocks.{PllClocks}
 use Rattle.rules.specs.Rust.Pll.{vco-setup, write-pll, pll-setup}
 use Rattle.rules.specs.Rust.Rcc.{pll-config}
 use Rattle.rules.specs.Demands.Report.{pllClocks}
+use Rattle.rules.specs.Demands.Agreement.{WrittenAt}
 use Rattle.laws.proofs.Tests.{and-left, by-test}
-use Rattle.rules.proofs.Agreement.Agree.{AgreeOrDepart}
+use Rattle.rules.proofs.Agreement.Agree.{AgreeOr}
 use Rattle.rules.proofs.Document01.Span.{Inside, Span}
 use Rattle.rules.proofs.Agreement.Setup.{zero-panics, posP, posQ, posR, spanned-is, far-panics, high-panics, good, small, outside-panics, vco-ends}
 use Rattle.rules.proofs.Agreement.Settle.{CountedDivides, SameSettings, settled-agrees}
 
 -- P as it counts is the least output or more, and is divided by at most 128
-counted-divides : (low most end : ℕ) (odd : Bool) (h : Hertz) → 1 ≤ low → Inside (countedP odd) low most h → CountedDivides odd (targetOf low most end) h
+pub counted-divides : (low most end : ℕ) (odd : Bool) (h : Hertz) → 1 ≤ low → Inside (countedP odd) low most h → CountedDivides odd (targetOf low most end) h
 counted-divides low most end odd Unset l i = tt
 counted-divides low most end odd (Hz h) l i = divider-le low most end l (countedP odd h) (i .0)
 
-module _ (k source : ℕ) (a : PllRequest) (odd : ℕ → Bool) (es : List Entry) (some : 1 ≤ source) (w : wanted a ≡ true) where
+module _ (k source : ℕ) (a : PllRequest) (odd : Bool) (es : List Entry) (some : 1 ≤ source) (w : wanted a ≡ true) where
   abbrev low : ℕ
-  low = least (countedOutputs (odd k) a)
+  low = least (countedOutputs odd a)
 
   abbrev most : ℕ
-  most = largest (countedOutputs (odd k) a)
+  most = largest (countedOutputs odd a)
 
   abbrev g : Range
   g = rangeOf most
@@ -53,30 +55,30 @@ module _ (k source : ℕ) (a : PllRequest) (odd : ℕ → Bool) (es : List Entry
   target = targetOf low most (g .end)
 
   abbrev Goal : Type 0
-  Goal = AgreeOrDepart odd (SameSettings k es) (runs (odd k) source a) (continue (vco-setup k source (pll-config a) (odd k) es) (write-pll k (a .strategy)))
+  Goal = AgreeOr (WrittenAt k odd a) (SameSettings k es) (runs odd source a) (continue (vco-setup k source (pll-config a) odd es) (write-pll k (a .strategy)))
 
   r7 : noneZero a ≡ false → Goal
   unfolding runs spanned
-  r7 f = rw (f, zero-panics source a (odd k) es f) tt
+  r7 f = rw (f, zero-panics source a odd es f) tt
 
   r8 : noneZero a ≡ true → leb (most / 128) low ≡ false → Goal
   unfolding runs spanned
-  r8 n f = rw (n, f, far-panics source a (odd k) es some w n f) tt
+  r8 n f = rw (n, f, far-panics source a odd es some w n f) tt
 
   r9 : noneZero a ≡ true → leb (most / 128) low ≡ true → ltb most 560_000_000 ≡ false → Goal
   unfolding runs spanned
-  r9 n t8 f = rw (n, t8, f, high-panics source a (odd k) es some w n t8 f) tt
+  r9 n t8 f = rw (n, t8, f, high-panics source a odd es some w n t8 f) tt
 
   r10 : noneZero a ≡ true → leb (most / 128) low ≡ true → ltb most 560_000_000 ≡ true → leb (g .start) target && leb target (g .end) ≡ false → Goal
   unfolding runs spanned dividedBy
-  r10 n t8 t9 f = rw (n, t8, t9, f, outside-panics source a (odd k) es some w n t8 t9 f) tt
+  r10 n t8 t9 f = rw (n, t8, t9, f, outside-panics source a odd es some w n t8 t9 f) tt
 
   r11 : noneZero a ≡ true → leb (most / 128) low ≡ true → ltb most 560_000_000 ≡ true → leb (g .start) target && leb target (g .end) ≡ true → (f : FoundM) → chosenM source target (g .low) (g .high) ≡ f → Goal
   unfolding runs spanned dividedBy
-  r11 n t8 t9 t10 Nothing e = rw (n, t8, t9, t10, vco-ends source a (odd k) es some w n t8 t9 t10, e) tt
+  r11 n t8 t9 t10 Nothing e = rw (n, t8, t9, t10, vco-ends source a odd es some w n t8 t9 t10, e) tt
   r11 n t8 t9 t10 (M m) e =
-      let sp : Span (odd k) (a .p) (a .q) (a .r) = spanned-is source a (odd k) es some w n in
-      let gd : Good g most = good source a (odd k) es some w n t8 t9 in
+      let sp : Span odd (a .p) (a .q) (a .r) = spanned-is source a odd es some w n in
+      let gd : Good g most = good source a odd es some w n t8 t9 in
       let c : Admissible source (g .low) (g .high) m = chosen-some source target (g .low) (g .high) m e .admissible in
       let rl : g .low ≤ source / m = ref-low source (g .low) (g .high) m (c .above) (admits source (g .low) (g .high) c) in
       let st : g .start ≤ target = leb-true (g .start) target (and-left (leb (g .start) target) (leb target (g .end)) t10) in
@@ -85,12 +87,12 @@ module _ (k source : ℕ) (a : PllRequest) (odd : ℕ → Bool) (es : List Entry
       let r1 : 1_000_000 ≤ source / m = le-trans ml rl in
       let t1 : 128_000_000 ≤ target = le-trans fr st in
       let far : most / 128 ≤ low = leb-true (most / 128) low t8 in
-      rw (n, t8, t9, t10, vco-ends source a (odd k) es some w n t8 t9 t10, e)
-      (settled-agrees k source a odd g target m es w (small source a (odd k) es some w n t8 t9) (c .within) r1
-      (divider-p low most g (sp .above) (sp .order) gd far t1 (odd k) (a .p) (sp .inP) (posP source a (odd k) es some w n))
-      (counted-divides low most (g .end) (odd k) (a .p) (sp .above) (sp .inP))
-      (divider-q low most g (sp .above) (sp .order) gd far t1 (a .q) (sp .inQ) (posQ source a (odd k) es some w n))
-      (divider-q low most g (sp .above) (sp .order) gd far t1 (a .r) (sp .inR) (posR source a (odd k) es some w n)))
+      rw (n, t8, t9, t10, vco-ends source a odd es some w n t8 t9 t10, e)
+      (settled-agrees k source a odd m es w (small source a odd es some w n t8 t9) (c .within) r1
+      (divider-p low most g (sp .above) (sp .order) gd far t1 odd (a .p) (sp .inP) (posP source a odd es some w n))
+      (counted-divides low most (g .end) odd (a .p) (sp .above) (sp .inP))
+      (divider-q low most g (sp .above) (sp .order) gd far t1 (a .q) (sp .inQ) (posQ source a odd es some w n))
+      (divider-q low most g (sp .above) (sp .order) gd far t1 (a .r) (sp .inR) (posR source a odd es some w n)))
 
   pub runs-agree : Goal
   runs-agree =
@@ -100,11 +102,11 @@ module _ (k source : ℕ) (a : PllRequest) (odd : ℕ → Bool) (es : List Entry
 abbrev pub SamePll : ℕ → List Entry → Pll → List Entry → PllClocks → Type 0
 SamePll k es x es′ c = (es′ ≡ es ++ setupEntries k x) × (c ≡ pllClocks x)
 
-running-agrees : (odd : ℕ → Bool) (k : ℕ) (es : List Entry) (x : Result PllSettings) (o : Outcome PllClocks) → AgreeOrDepart odd (SameSettings k es) x o → AgreeOrDepart odd (SamePll k es) (running x) o
-running-agrees odd k es (refused n) panics h = h
-running-agrees odd k es (refused n) (ends es′ c) h = h
-running-agrees odd k es (ok s) panics h = h
-running-agrees odd k es (ok s) (ends es′ c) h = h
+running-agrees : (D : Refusal → List Entry → Type 0) (k : ℕ) (es : List Entry) (x : Result PllSettings) (o : Outcome PllClocks) → AgreeOr D (SameSettings k es) x o → AgreeOr D (SamePll k es) (running x) o
+running-agrees D k es (refused n) panics h = h
+running-agrees D k es (refused n) (ends es′ c) h = h
+running-agrees D k es (ok s) panics h = h
+running-agrees D k es (ok s) (ends es′ c) h = h
 
 some-is : (p q r : Hertz) → is-some (or p (or q r)) ≡ isSet p || (isSet q || isSet r)
 some-is (Hz p) q r = refl
@@ -112,11 +114,11 @@ some-is Unset (Hz q) r = refl
 some-is Unset Unset (Hz r) = refl
 some-is Unset Unset Unset = refl
 
-pub pll-agrees : (k source : ℕ) (a : PllRequest) (odd : ℕ → Bool) (es : List Entry) → 1 ≤ source → AgreeOrDepart odd (SamePll k es) (pllOf (odd k) source a) (pll-setup k (odd k) source (pll-config a) es)
+pub pll-agrees : (k source : ℕ) (a : PllRequest) (odd : Bool) (es : List Entry) → 1 ≤ source → AgreeOr (WrittenAt k odd a) (SamePll k es) (pllOf odd source a) (pll-setup k odd source (pll-config a) es)
 unfolding pllOf pll-setup
 pll-agrees k source a odd es some =
     by-test (wanted a)
-    (λ (w : wanted a ≡ true). rw (lt-ltb 0 source some, some-is (a .p) (a .q) (a .r), w) (running-agrees odd k es (runs (odd k) source a) (continue (vco-setup k source (pll-config a) (odd k) es) (write-pll k (a .strategy))) (runs-agree k source a odd es some w)))
+    (λ (w : wanted a ≡ true). rw (lt-ltb 0 source some, some-is (a .p) (a .q) (a .r), w) (running-agrees (WrittenAt k odd a) k es (runs odd source a) (continue (vco-setup k source (pll-config a) odd es) (write-pll k (a .strategy))) (runs-agree k source a odd es some w)))
     (λ (w : wanted a ≡ false). rw (lt-ltb 0 source some, some-is (a .p) (a .q) (a .r), w) (sym (append-nil es), refl))
 
 -- refusal 6

@@ -1,8 +1,9 @@
 -- From the setters to the PLLs: steps 1 to 4 against the Rust up to `plls-setup`, refusals 3 to 15.
-use mathlib.Core.Path.{_≡_, refl, sym, ap, _∙_}
+use mathlib.Core.Path.{_≡_, refl, sym, ap, subst, _∙_}
 use mathlib.Core.List.{List, [], _++_, append-assoc, append-nil}
 use mathlib.Core.Bool.{Bool, true, false, not, cond, _&&_, _||_}
-use Prim.Native.Nat.{ℕ, _/_, _≤_}
+use Prim.Native.Nat.{ℕ, _/_, _≤_, _<_}
+use native.Mathlib.Omega.{arith}
 use lib.Dec.{leb, eqb}
 use borrow.Author.Tests.{eqb-true, not-false}
 use Rattle.types.specs.declared.Entry.{Entry}
@@ -17,7 +18,7 @@ use Rattle.types.specs.declared.ChipState.{ChipState}
 use Rattle.rules.specs.Document01.Result as Rules
 use Rattle.rules.specs.Document01.Result.{Result, refused, ok, require}
 use Rattle.rules.specs.Document01.Hertz.{isSet}
-use Rattle.rules.specs.Document01.Request.{forPll1Q, pllAt, within, fromHse1, fromHse2, pll1Asked, pll2Asked, sourceOf, systemOf, needsPll1, withP, forSystemClock, sourced, like}
+use Rattle.rules.specs.Document01.Request.{forPll1Q, pllAt, within, fromHse1, fromHse2, pll1Asked, pll2Asked, sourceOf, systemOf, needsPll1, withP, askedOf, forSystemClock, sourced, like}
 use Rattle.types.specs.declared.Refusal.the-variants.{NOutside, Pll1PUnlikeSystem}
 use Rattle.rules.specs.Document01.OnePll.{Range, settingsOf, vcoBy, outputOf, clockOf, pClock, spanned, dividedBy, settled, fractionOf, allowedP, dividerP, runs, running, pllOf, rangeFor, targetFor, firstOf}
 use Rattle.rules.specs.Document01.Entries.{setupEntries}
@@ -29,11 +30,12 @@ use Rattle.rules.specs.Rust.Pll.{pll-setup}
 use Rattle.rules.specs.Rust.Rcc as F
 use Rattle.rules.specs.Rust.Rcc.{Config, SysCk, pll-config, config-of, setters, mco1-setup, mco2-setup, sys-ck-setup, if-rm0481, no-pll, plls-setup}
 use Rattle.rules.specs.Demands.Report.{pllClocks}
-use Rattle.rules.specs.Demands.Agreement.{oddP, Departure}
+use Rattle.rules.specs.Demands.Agreement.{oddP, pllCount, WrittenAt, Departure}
 use Rattle.laws.proofs.Tests.{by-test, never, or-false, or-true}
-use Rattle.rules.proofs.Document01.Results.{Holds, holds-then, holds-next}
+use Rattle.rules.proofs.Document01.Results.{Holds, holds-then, holds-next, holds-both}
+use Rattle.rules.proofs.Legal.Plan.{asked-first}
 use Rattle.rules.proofs.Agreement.Keeps.{ending, sets-up, laws}
-use Rattle.rules.proofs.Agreement.Agree.{noEnd, AgreeOrDepart, departs-still, agree-then-depart, depart-then, agree-holds, agree-map}
+use Rattle.rules.proofs.Agreement.Agree.{noEnd, AgreeOrDepart, departs-still, departs-too, agree-then-depart, depart-then, agree-holds, agree-map}
 use Rattle.rules.proofs.Document01.Span.{pos-of}
 use Rattle.rules.proofs.Agreement.Numbers.{or-same}
 use Rattle.rules.proofs.Agreement.Config.{configAfter, configWith, setters-end, setters-panic, fillQ, mco1-fills, mco1-panics, mco2-fills, mco2-panics, sysCk, KeptSys, system-agrees}
@@ -123,9 +125,24 @@ third-idle q c =
     holds-any (refused n) h = tt
     holds-any (ok y) h = h y
 
-third-agrees : (q : Request) (c : ChipState) (es : List Entry) → 1 ≤ sourceOf q → (three : Bool) → AgreeOrDepart (oddP c) (SamePll 2 es) (cond three (pllOf (c .odd3) (sourceOf q) (pllAt q 2)) (ok Idle)) (if-rm0481 three (pll-setup 2 (c .odd3) (sourceOf q) (pll-config (pllAt q 2))) no-pll es)
-third-agrees q c es h true = pll-agrees 2 (sourceOf q) (pllAt q 2) (oddP c) es h
-third-agrees q c es h false = (sym (append-nil es), refl)
+-- PLL k of the chip agrees, where so much is asked of it
+pll-departs : (q : Request) (c : ChipState) (k : ℕ) (a : PllRequest) (es : List Entry) → k < pllCount c → a ≡ askedOf q k → 1 ≤ sourceOf q → AgreeOrDepart q c (SamePll k es) (pllOf (oddP c k) (sourceOf q) a) (pll-setup k (oddP c k) (sourceOf q) (pll-config a) es)
+pll-departs q c k a es l is h =
+    departs-too (WrittenAt k (oddP c k) a) (Departure q c) (SamePll k es) (pllOf (oddP c k) (sourceOf q) a) (pll-setup k (oddP c k) (sourceOf q) (pll-config a) es)
+    (λ n es′ d. record { pll = k; there = l; at = subst (λ (b : PllRequest). WrittenAt k (oddP c k) b n es′) is d })
+    (pll-agrees k (sourceOf q) a (oddP c k) es h)
+
+-- each chip has two
+pub two-there : (c : ChipState) → 2 ≤ pllCount c
+two-there c = go (c .three)
+  where
+    go : (t : Bool) → 2 ≤ cond t 3 2
+    go true = omega arith
+    go false = omega arith
+
+third-agrees : (q : Request) (c : ChipState) (es : List Entry) → 1 ≤ sourceOf q → (three : Bool) → c .three ≡ three → AgreeOrDepart q c (SamePll 2 es) (cond three (pllOf (c .odd3) (sourceOf q) (pllAt q 2)) (ok Idle)) (if-rm0481 three (pll-setup 2 (c .odd3) (sourceOf q) (pll-config (pllAt q 2))) no-pll es)
+third-agrees q c es h true t = pll-departs q c 2 (pllAt q 2) es (rw t (omega arith)) refl h
+third-agrees q c es h false t = (sym (append-nil es), refl)
 
 abbrev rulesFrom : Request → ChipState → PllRequest → Result R.Plls
 rulesFrom q c asked1 =
@@ -133,7 +150,7 @@ rulesFrom q c asked1 =
     Rules._>>=_ (pllOf (c .odd2) (sourceOf q) (pll2Asked q)) (λ pll2.
     Rules._>>=_ (thirdOf q c) (λ pll3. ok (record { pll1 = pll1; pll2 = pll2; pll3 = pll3 }))))
 
-module _ (q : Request) (c : ChipState) (st : Stated q) (asked1 : PllRequest) (p1 : needsPll1 q ≡ true → isSet (asked1 .p) ≡ true) where
+module _ (q : Request) (c : ChipState) (st : Stated q) (asked1 : PllRequest) (p1 : needsPll1 q ≡ true → isSet (asked1 .p) ≡ true) (is : asked1 ≡ askedOf q 0) where
   abbrev source : ℕ
   source = sourceOf q
 
@@ -141,7 +158,7 @@ module _ (q : Request) (c : ChipState) (st : Stated q) (asked1 : PllRequest) (p1
   rules = rulesFrom q c asked1
 
   -- 6
-  no-source : eqb source 0 ≡ true → AgreeOrDepart (oddP c) (SameReady q c) (Rules._>>_ (sourced q) rules) (afterSys c (sysCk q asked1) [])
+  no-source : eqb source 0 ≡ true → AgreeOrDepart q c (SameReady q c) (Rules._>>_ (sourced q) rules) (afterSys c (sysCk q asked1) [])
   unfolding plls-setup
   no-source t =
       let e : source ≡ 0 = eqb-true source 0 t in
@@ -172,29 +189,29 @@ module _ (q : Request) (c : ChipState) (st : Stated q) (asked1 : PllRequest) (p1
       vacuous (refused n) f = tt
       vacuous (ok y) f = λ e. absurd (never (sym e ∙ f))
 
-  plls-agree : 1 ≤ source → AgreeOrDepart (oddP c) SamePlls rules (plls-setup c (configAfter q asked1) [])
+  plls-agree : 1 ≤ source → AgreeOrDepart q c SamePlls rules (plls-setup c (configAfter q asked1) [])
   unfolding plls-setup
   plls-agree h =
       rw (or-same (q .hse) 32_000_000)
-      (depart-then (λ x es b. SamePll 0 [] x es b × Needed x) SamePlls (pllOf (c .odd1) source asked1) (pll-setup 0 (c .odd1) source (pll-config asked1) []) _ _ (oddP c)
-      (agree-holds (Departure (oddP c)) (SamePll 0 []) Needed (pllOf (c .odd1) source asked1) (pll-setup 0 (c .odd1) source (pll-config asked1) []) (pll-agrees 0 source asked1 (oddP c) [] h) needed-p)
-      (λ n es b d. search (laws, sets-up, departs-still (oddP c) n))
+      (depart-then (λ x es b. SamePll 0 [] x es b × Needed x) SamePlls (pllOf (c .odd1) source asked1) (pll-setup 0 (c .odd1) source (pll-config asked1) []) _ _ (Departure q c)
+      (agree-holds (Departure q c) (SamePll 0 []) Needed (pllOf (c .odd1) source asked1) (pll-setup 0 (c .odd1) source (pll-config asked1) []) (pll-departs q c 0 asked1 [] (let l = two-there c in omega arith) is h) needed-p)
+      (λ n es b d. search (laws, sets-up, departs-still q c n))
       (λ x1 es1 b1 s1. rw (s1 .0 .0, s1 .0 .1)
-      (depart-then (SamePll 1 (setupEntries 0 x1)) SamePlls (pllOf (c .odd2) source (pll2Asked q)) (pll-setup 1 (c .odd2) source (pll-config (pll2Asked q)) (setupEntries 0 x1)) _ _ (oddP c) (pll-agrees 1 source (pll2Asked q) (oddP c) (setupEntries 0 x1) h)
-      (λ n es b d. search (laws, sets-up, departs-still (oddP c) n))
+      (depart-then (SamePll 1 (setupEntries 0 x1)) SamePlls (pllOf (c .odd2) source (pll2Asked q)) (pll-setup 1 (c .odd2) source (pll-config (pll2Asked q)) (setupEntries 0 x1)) _ _ (Departure q c) (pll-departs q c 1 (pll2Asked q) (setupEntries 0 x1) (let l = two-there c in omega arith) refl h)
+      (λ n es b d. search (laws, sets-up, departs-still q c n))
       (λ x2 es2 b2 s2. rw (s2 .0, s2 .1)
-      (depart-then (λ x es b. SamePll 2 (setupEntries 0 x1 ++ setupEntries 1 x2) x es b × Third x) SamePlls (thirdOf q c) (if-rm0481 (c .three) (pll-setup 2 (c .odd3) source (pll-config (pllAt q 2))) no-pll (setupEntries 0 x1 ++ setupEntries 1 x2)) _ _ (oddP c)
-      (agree-holds (Departure (oddP c)) (SamePll 2 (setupEntries 0 x1 ++ setupEntries 1 x2)) Third (thirdOf q c) (if-rm0481 (c .three) (pll-setup 2 (c .odd3) source (pll-config (pllAt q 2))) no-pll (setupEntries 0 x1 ++ setupEntries 1 x2)) (third-agrees q c (setupEntries 0 x1 ++ setupEntries 1 x2) h (c .three)) (third-idle q c))
+      (depart-then (λ x es b. SamePll 2 (setupEntries 0 x1 ++ setupEntries 1 x2) x es b × Third x) SamePlls (thirdOf q c) (if-rm0481 (c .three) (pll-setup 2 (c .odd3) source (pll-config (pllAt q 2))) no-pll (setupEntries 0 x1 ++ setupEntries 1 x2)) _ _ (Departure q c)
+      (agree-holds (Departure q c) (SamePll 2 (setupEntries 0 x1 ++ setupEntries 1 x2)) Third (thirdOf q c) (if-rm0481 (c .three) (pll-setup 2 (c .odd3) source (pll-config (pllAt q 2))) no-pll (setupEntries 0 x1 ++ setupEntries 1 x2)) (third-agrees q c (setupEntries 0 x1 ++ setupEntries 1 x2) h (c .three) refl) (third-idle q c))
       (λ n es b d. ending d)
       (λ x3 es3 b3 s3. (s3 .0 .0 ∙ append-assoc (setupEntries 0 x1) (setupEntries 1 x2) (setupEntries 2 x3), ap (λ (z : PllClocks). record { pll1 = pllClocks x1; pll2 = pllClocks x2; pll3 = z }) (s3 .0 .1), s1 .1, s3 .1)))))))
 
-  some-source : eqb source 0 ≡ false → AgreeOrDepart (oddP c) (SameReady q c) (Rules._>>_ (sourced q) rules) (afterSys c (sysCk q asked1) [])
+  some-source : eqb source 0 ≡ false → AgreeOrDepart q c (SameReady q c) (Rules._>>_ (sourced q) rules) (afterSys c (sysCk q asked1) [])
   some-source f =
       rw f
-      (agree-map (Departure (oddP c)) SamePlls (SameReady q c) rules (plls-setup c (configAfter q asked1) []) (λ l. record { s = sysCk q asked1; plls = l }) (plls-agree (pos-of source f))
+      (agree-map (Departure q c) SamePlls (SameReady q c) rules (plls-setup c (configAfter q asked1) []) (λ l. record { s = sysCk q asked1; plls = l }) (plls-agree (pos-of source f))
       (λ l es r h. record { asked1 = asked1; entries = h .0; value = ap (λ (z : F.Plls). record { s = sysCk q asked1; plls = z }) (h .1); needed = h .2; third = h .3; states = st }))
 
-  pub after-sys : AgreeOrDepart (oddP c) (SameReady q c) (Rules._>>_ (sourced q) rules) (afterSys c (sysCk q asked1) [])
+  pub after-sys : AgreeOrDepart q c (SameReady q c) (Rules._>>_ (sourced q) rules) (afterSys c (sysCk q asked1) [])
   after-sys = by-test (eqb source 0) no-source some-source
 
 -- ---- the MCOs' HSE, and refusal 4
@@ -231,15 +248,15 @@ module _ (q : Request) (c : ChipState) where
   afterFill = Rules._>>=_ (forSystemClock (needsPll1 q) (systemOf q) (pll1Asked q)) (λ asked1. Rules._>>_ (sourced q) (rulesFrom q c asked1))
 
   abbrev P1 : PllRequest → Type 0
-  P1 a = needsPll1 q ≡ true → isSet (a .p) ≡ true
+  P1 a = (needsPll1 q ≡ true → isSet (a .p) ≡ true) × (a ≡ askedOf q 0)
 
-  filled-agrees : Stated q → AgreeOrDepart (oddP c) (SameReady q c) afterFill (afterMco2 c (configAfter q (pll1Asked q)) [])
+  filled-agrees : Stated q → AgreeOrDepart q c (SameReady q c) afterFill (afterMco2 c (configAfter q (pll1Asked q)) [])
   filled-agrees st =
-      agree-then-depart (λ a es s. KeptSys q [] a es s × P1 a) (SameReady q c) (forSystemClock (needsPll1 q) (systemOf q) (pll1Asked q)) (sys-ck-setup (configAfter q (pll1Asked q)) []) _ _ (oddP c)
-      (agree-holds noEnd (KeptSys q []) P1 (forSystemClock (needsPll1 q) (systemOf q) (pll1Asked q)) (sys-ck-setup (configAfter q (pll1Asked q)) []) (system-agrees q []) (asked-p (needsPll1 q) (systemOf q) (pll1Asked q)))
-      (λ a es s h. rw (h .0 .0, h .0 .1) (after-sys q c st a (h .1)))
+      agree-then-depart (λ a es s. KeptSys q [] a es s × P1 a) (SameReady q c) (forSystemClock (needsPll1 q) (systemOf q) (pll1Asked q)) (sys-ck-setup (configAfter q (pll1Asked q)) []) _ _ (Departure q c)
+      (agree-holds noEnd (KeptSys q []) P1 (forSystemClock (needsPll1 q) (systemOf q) (pll1Asked q)) (sys-ck-setup (configAfter q (pll1Asked q)) []) (system-agrees q []) (holds-both (λ (a : PllRequest). needsPll1 q ≡ true → isSet (a .p) ≡ true) (λ (a : PllRequest). a ≡ askedOf q 0) (forSystemClock (needsPll1 q) (systemOf q) (pll1Asked q)) (asked-p (needsPll1 q) (systemOf q) (pll1Asked q)) (asked-first q)))
+      (λ a es s h. rw (h .0 .0, h .0 .1) (after-sys q c st a (h .1 .0) (h .1 .1)))
 
-  pub plls-ready : AgreeOrDepart (oddP c) (SameReady q c) (pllsOf q c) (ready q c)
+  pub plls-ready : AgreeOrDepart q c (SameReady q c) (pllsOf q c) (ready q c)
   unfolding pllsOf
   plls-ready =
       by-test (within (q .system) && (within (q .ahb) && (within (q .apb1) && (within (q .apb2) && within (q .apb3)))))

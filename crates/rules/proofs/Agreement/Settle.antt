@@ -1,5 +1,5 @@
 -- `write-pll` against document 01, One PLL, refusals 12 to 15, and the entries that set a PLL up.
-use mathlib.Core.Path.{_≡_, refl, sym, ap}
+use mathlib.Core.Path.{_≡_, refl, sym, ap, _∙_}
 use mathlib.Core.List.{List, [], _∷_, _++_, append-assoc, append-nil}
 use mathlib.Core.Logic.{_⊎_, inl, inr}
 use mathlib.Core.Bool.{Bool, true, false, _&&_, _||_}
@@ -26,17 +26,17 @@ use Rattle.rules.specs.Document01.Result.{refused, ok}
 use Rattle.rules.specs.Document01.Hertz.{isSet, hertzOr, orElse}
 use Rattle.rules.specs.Document01.Fields
 use Rattle.rules.specs.Document01.Fields.{ofPll}
-use Rattle.rules.specs.Document01.OnePll.{wanted, countedP, Range, rgeOf, firstOf, fractionOf, vcoBy, outputOf, dividerP, allowedP, settingsOf, settled, clockOf}
+use Rattle.rules.specs.Document01.OnePll.{wanted, countedP, Range, rangeFor, targetFor, rgeOf, firstOf, fractionOf, vcoBy, outputOf, dividerP, allowedP, settingsOf, settled, clockOf}
 use Rattle.rules.specs.Document01.Entries.{outputEntries, fractionEntries, settingEntries}
 use Rattle.rules.proofs.Legal.OnePll.{Divides, SomeDivider, divides-p}
 use Rattle.rules.specs.Rust.Run.{Outcome, ends, continue, as-u8}
 use Rattle.rules.specs.Rust.CoreClocks.{PllClocks}
 use Rattle.rules.specs.Rust.Pll.{Some, rge, pll-divider-setup, calc-fracn, calc-vco-ck, or-output, vco-ck-of, write-pll}
 use Rattle.rules.specs.Manual.PllFields.{allowsP}
-use Rattle.rules.specs.Demands.Agreement.{Refused14, Refused15, Departure}
+use Rattle.rules.specs.Demands.Agreement.{Refused14, Refused15, dividerFor, Forbidden, WrittenAt}
 use Rattle.laws.proofs.Tests.{by-test, never, row}
 use Rattle.rules.proofs.Agreement.Keeps.{Keeps, ending, follows, output, laws}
-use Rattle.rules.proofs.Agreement.Agree.{Agree, AgreeOrDepart, agree-then-depart, departs-still, departed}
+use Rattle.rules.proofs.Agreement.Agree.{Agree, AgreeOr, agree-then-depart, written-still, departed}
 use Rattle.rules.proofs.Agreement.Numbers.{nonzero}
 use Rattle.rules.proofs.Agreement.Setup.{outputRust, setupOf}
 
@@ -94,24 +94,32 @@ abbrev pub CountedDivides : Bool → ℕ → Hertz → Type 0
 CountedDivides odd target Unset = Unit {0}
 CountedDivides odd target (Hz h) = target / countedP odd h ≤ 128
 
--- P's divider is one that is refused, and the manual forbids what is written for it
-abbrev Wrong : Bool → Refusal → ℕ → Hertz → Type 0
-Wrong odd n target Unset = ⊥
-Wrong odd n target (Hz h) = (1 ≤ target / h) × (Refused14 n (target / h) ⊎ Refused15 n (target / h)) × (allowsP odd (as-u8 (target / h - 1)) ≡ false)
+-- 14: odd dividers are forbidden, and the divider is at most 257
+above-by : (odd : Bool) (target : ℕ) (h : Hertz) → CountedDivides odd target h → leb (dividerP target h) 128 ≡ false → (isSet h ≡ true) × (odd ≡ false) × (128 < dividerP target h) × (dividerP target h ≤ 257)
+above-by odd target Unset c t = absurd (never t)
+above-by true target (Hz h) c t = absurd (let l = leb-false (target / h) 128 t in omega arith)
+above-by false target (Hz h) c t =
+    let half : target / h / 2 ≤ 128 = rw div-div-eq-div-mul c in
+    (refl, refl, leb-false (target / h) 128 t, omega arith)
 
--- 15: the field holds the divider less 1
-odd-forbidden : (d : ℕ) → 1 ≤ d → d ≤ 128 → eqb (d % 2) 0 ≡ false → allowsP false (as-u8 (d - 1)) ≡ false
-odd-forbidden d one most f =
+pub above-why : (odd : Bool) (a : PllRequest) → CountedDivides odd (targetFor odd a) (a .p) → leb (dividerFor odd a) 128 ≡ false → Forbidden odd a PDividerAbove128
+above-why odd a c t = let b = above-by odd (targetFor odd a) (a .p) c t in record { asked = b .0; even = b .1; which = inl (refl, b .2, b .3) }
+
+-- 15
+odd-by : (odd : Bool) (target : ℕ) (h : Hertz) → odd || eqb (dividerP target h % 2) 0 ≡ false → (isSet h ≡ true) × (odd ≡ false) × (dividerP target h % 2 ≡ 1)
+odd-by true target h s = absurd (never s)
+odd-by false target Unset s = absurd (never s)
+odd-by false target (Hz h) s = (refl, refl, let e = eqb-false (target / h % 2) 0 s in omega arith)
+
+pub odd-why : (odd : Bool) (a : PllRequest) → leb (dividerFor odd a) 128 ≡ true → odd || eqb (dividerFor odd a % 2) 0 ≡ false → Forbidden odd a PDividerOdd
+odd-why odd a t s = let b = odd-by odd (targetFor odd a) (a .p) s in record { asked = b .0; even = b .1; which = inr (refl, leb-true (dividerFor odd a) 128 t, b .2) }
+
+-- the manual forbids what is written for it. 15: the field holds the divider less 1
+odd-forbidden : (d : ℕ) → d ≤ 128 → d % 2 ≡ 1 → allowsP false (as-u8 (d - 1)) ≡ false
+odd-forbidden d most o =
     let u : (d - 1) % 256 ≡ d - 1 = mod-eq-of-lt (omega arith) in
     let e : d - 1 + 1 ≡ d = omega arith in
-    rw (u, e, le-leb (d - 1) 127 (omega arith), f)
-
-odd-wrong : (odd : Bool) (target : ℕ) (h : Hertz) → SomeDivider target h → leb (dividerP target h) 128 ≡ true → odd || eqb (dividerP target h % 2) 0 ≡ false → Wrong odd PDividerOdd target h
-odd-wrong true target h d t s = absurd (never s)
-odd-wrong false target Unset d t s = never s
-odd-wrong false target (Hz h) d t s =
-    let most : target / h ≤ 128 = leb-true (target / h) 128 t in
-    (d, inr (refl, most, (let e = eqb-false (target / h % 2) 0 s in omega arith)), odd-forbidden (target / h) d most s)
+    rw (u, e, le-leb (d - 1) 127 (omega arith), o)
 
 -- 14: the field holds 128 or more, or 0, for a divider of 1, where 256 is cut to 8 bits
 above-forbidden : (d : ℕ) → 128 < d → d ≤ 257 → allowsP false (as-u8 (d - 1)) ≡ false
@@ -120,29 +128,26 @@ above-forbidden d low most =
     (λ (t : leb ((d - 1) % 256) 127 ≡ true). let z : (d - 1) % 256 ≡ 0 = let l = leb-true ((d - 1) % 256) 127 t in omega arith in rw z)
     (λ (f : leb ((d - 1) % 256) 127 ≡ false). rw f)
 
-above-wrong : (odd : Bool) (target : ℕ) (h : Hertz) → SomeDivider target h → CountedDivides odd target h → leb (dividerP target h) 128 ≡ false → Wrong odd PDividerAbove128 target h
-above-wrong odd target Unset d c t = never t
-above-wrong true target (Hz h) d c t = absurd (let l = leb-false (target / h) 128 t in omega arith)
-above-wrong false target (Hz h) d c t =
-    let low : 128 < target / h = leb-false (target / h) 128 t in
-    let half : target / h / 2 ≤ 128 = rw div-div-eq-div-mul c in
-    let most : target / h ≤ 257 = omega arith in
-    (d, inl (refl, low, most), above-forbidden (target / h) low most)
+why-forbids : (odd : Bool) (a : PllRequest) (n : Refusal) → Forbidden odd a n → allowsP odd (as-u8 (dividerFor odd a - 1)) ≡ false
+why-forbids odd a n w = go odd (dividerFor odd a) (w .even) (w .which)
+  where
+    go : (o : Bool) (d : ℕ) → o ≡ false → Refused14 n d ⊎ Refused15 n d → allowsP o (as-u8 (d - 1)) ≡ false
+    go o d e (inl x) = rw e (above-forbidden d (x .1) (x .2))
+    go o d e (inr x) = rw e (odd-forbidden d (x .1) (x .2))
 
 -- it is written, and that is a departure
-writes-wrong : (odd : ℕ → Bool) (k vco target : ℕ) (h : Hertz) (n : Refusal) (es : List Entry) → Wrong (odd k) n target h → Keeps (Departure odd n) (pll-divider-setup (ofPll k Fields.P) (ofPll k Fields.PEN) vco (outputRust target h) es)
+writes-wrong : (k vco : ℕ) (odd : Bool) (a : PllRequest) (n : Refusal) (es : List Entry) → Forbidden odd a n → (target : ℕ) (h : Hertz) → dividerP target h ≡ dividerFor odd a → isSet h ≡ true → SomeDivider target h
+    → Keeps (WrittenAt k odd a n) (pll-divider-setup (ofPll k Fields.P) (ofPll k Fields.PEN) vco (outputRust target h) es)
 unfolding pll-divider-setup
-writes-wrong odd k vco target Unset n es w = absurd w
-writes-wrong odd k vco target (Hz h) n es w =
-    rw (le-leb 1 (target / h) (w .0), nonzero (target / h) (w .0))
+writes-wrong k vco odd a n es why target Unset is t d = absurd (never (sym t))
+writes-wrong k vco odd a n es why target (Hz h) is t d =
+    rw (le-leb 1 (target / h) d, nonzero (target / h) d)
     (ending (record {
-      pll = k;
-      divider = target / h;
-      which = w .1;
+      why = why;
       before = es;
       after = Set (ofPll k Fields.PEN) 1 ∷ [];
-      written = append-assoc es (Set (ofPll k Fields.P) (as-u8 (target / h - 1)) ∷ []) (Set (ofPll k Fields.PEN) 1 ∷ []);
-      forbidden = w .2;
+      written = append-assoc es (Set (ofPll k Fields.P) (as-u8 (target / h - 1)) ∷ []) (Set (ofPll k Fields.PEN) 1 ∷ []) ∙ ap (λ (x : ℕ). es ++ (Set (ofPll k Fields.P) (as-u8 (x - 1)) ∷ Set (ofPll k Fields.PEN) 1 ∷ [])) is;
+      forbidden = why-forbids odd a n why;
     }))
 
 -- ---- refusals 12 to 15, and all that is written
@@ -152,7 +157,13 @@ settingClocks s = record { p-ck = clockOf (s .p); q-ck = clockOf (s .q); r-ck = 
 abbrev pub SameSettings : ℕ → List Entry → PllSettings → List Entry → PllClocks → Type 0
 SameSettings k es s es′ c = (es′ ≡ es ++ settingEntries k s) × (c ≡ settingClocks s)
 
-module _ (k source : ℕ) (a : PllRequest) (odd : ℕ → Bool) (g : Range) (target m : ℕ) (es0 : List Entry) (w : wanted a ≡ true) (small : target < 2_147_483_648) (m63 : m ≤ 63) (ref1 : 1_000_000 ≤ source / m) (dp : SomeDivider target (a .p)) (cp : CountedDivides (odd k) target (a .p)) (dq : Divides target (a .q)) (dr : Divides target (a .r)) where
+module _ (k source : ℕ) (a : PllRequest) (odd : Bool) (m : ℕ) (es0 : List Entry) (w : wanted a ≡ true) (small : targetFor odd a < 2_147_483_648) (m63 : m ≤ 63) (ref1 : 1_000_000 ≤ source / m) (dp : SomeDivider (targetFor odd a) (a .p)) (cp : CountedDivides odd (targetFor odd a) (a .p)) (dq : Divides (targetFor odd a) (a .q)) (dr : Divides (targetFor odd a) (a .r)) where
+  abbrev g : Range
+  g = rangeFor odd a
+
+  abbrev target : ℕ
+  target = targetFor odd a
+
   abbrev ref : ℕ
   ref = source / m
 
@@ -168,7 +179,7 @@ module _ (k source : ℕ) (a : PllRequest) (odd : ℕ → Bool) (g : Range) (tar
   es4 = (es2 ++ (Set (ofPll k Fields.M) m ∷ [])) ++ (Set (ofPll k Fields.N) (n - 1) ∷ [])
 
   abbrev Goal : Type 0
-  Goal = AgreeOrDepart odd (SameSettings k es0) (settled (odd k) a g target m ref n) (write-pll k (a .strategy) (setupOf source a g target m) es2)
+  Goal = AgreeOr (WrittenAt k odd a) (SameSettings k es0) (settled (odd) a g target m ref n) (write-pll k (a .strategy) (setupOf source a g target m) es2)
 
   n-outside : leb 4 n && leb n 512 ≡ false → Goal
   unfolding settled write-pll
@@ -199,19 +210,19 @@ module _ (k source : ℕ) (a : PllRequest) (odd : ℕ → Bool) (g : Range) (tar
       (ap (λ (l : List Entry). ends l (settingClocks (settings f))) (simp append-assoc))
 
   -- 14 and 15 are departures
-  departs : (f : Fraction) (x : Refusal) → Wrong (odd k) x target (a .p) → AgreeOrDepart odd (SameSettings k es0) (refused x) (outputs f)
-  departs f x w =
-      departed odd (SameSettings k es0) x
-      (follows (Departure odd x) (departs-still odd x) _ (writes-wrong odd k (vcoBy f ref n) target (a .p) x (es4 ++ fractionEntries k f) w) (λ p es d. search (laws, output, departs-still odd x)))
+  departs : (f : Fraction) (x : Refusal) → Forbidden odd a x → AgreeOr (WrittenAt k odd a) (SameSettings k es0) (refused x) (outputs f)
+  departs f x why =
+      departed (WrittenAt k odd a) (SameSettings k es0) x
+      (follows (WrittenAt k odd a x) (written-still k odd a x) _ (writes-wrong k (vcoBy f ref n) odd a x (es4 ++ fractionEntries k f) why target (a .p) refl (why .asked) dp) (λ p es d. search (laws, output, written-still k odd a x)))
 
-  allowed-agrees : (f : Fraction) → AgreeOrDepart odd (SameSettings k es0) (Rules._>>_ (allowedP (odd k) (dividerP target (a .p))) (ok (settings f))) (outputs f)
+  allowed-agrees : (f : Fraction) → AgreeOr (WrittenAt k odd a) (SameSettings k es0) (Rules._>>_ (allowedP odd (dividerP target (a .p))) (ok (settings f))) (outputs f)
   allowed-agrees f =
       by-test (leb (dividerP target (a .p)) 128)
       (λ (t : leb (dividerP target (a .p)) 128 ≡ true).
-      by-test (odd k || eqb (dividerP target (a .p) % 2) 0)
-      (λ (s : odd k || eqb (dividerP target (a .p) % 2) 0 ≡ true). rw (t, s, written f (divides-p target (a .p) dp t)) (refl, refl))
-      (λ (s : odd k || eqb (dividerP target (a .p) % 2) 0 ≡ false). rw (t, s) (departs f PDividerOdd (odd-wrong (odd k) target (a .p) dp t s))))
-      (λ (t : leb (dividerP target (a .p)) 128 ≡ false). rw t (departs f PDividerAbove128 (above-wrong (odd k) target (a .p) dp cp t)))
+      by-test (odd || eqb (dividerP target (a .p) % 2) 0)
+      (λ (s : odd || eqb (dividerP target (a .p) % 2) 0 ≡ true). rw (t, s, written f (divides-p target (a .p) dp t)) (refl, refl))
+      (λ (s : odd || eqb (dividerP target (a .p) % 2) 0 ≡ false). rw (t, s) (departs f PDividerOdd (odd-why odd a t s))))
+      (λ (t : leb (dividerP target (a .p)) 128 ≡ false). rw t (departs f PDividerAbove128 (above-why odd a cp t)))
 
   n-inside : leb 4 n && leb n 512 ≡ true → Goal
   unfolding settled write-pll
@@ -224,7 +235,7 @@ module _ (k source : ℕ) (a : PllRequest) (odd : ℕ → Bool) (g : Range) (tar
       let un : (n - 1) % 65_536 ≡ n - 1 = mod-eq-of-lt (omega arith) in
       let fits : ref * n < 4_294_967_296 = let x : ref * n ≤ target = mul-div-le target ref in omega arith in
       rw (nonzero ref (omega arith), s, e, um, un, first-is target (a .p) (a .q) (a .r) w)
-      (agree-then-depart (VcoSame k ref n es4) (SameSettings k es0) (fractionOf (a .strategy) ref n (target / firstOf a) (firstOf a)) (vco-ck-of k (a .strategy) ref n (Some (firstOf a) (target / firstOf a)) es4) _ _ odd (vco-agrees k ref n (target / firstOf a) (firstOf a) es4 (a .strategy) fits)
+      (agree-then-depart (VcoSame k ref n es4) (SameSettings k es0) (fractionOf (a .strategy) ref n (target / firstOf a) (firstOf a)) (vco-ck-of k (a .strategy) ref n (Some (firstOf a) (target / firstOf a)) es4) _ _ (WrittenAt k odd a) (vco-agrees k ref n (target / firstOf a) (firstOf a) es4 (a .strategy) fits)
       (λ f es1 v h. rw (h .0, h .1) (allowed-agrees f))))
       (λ (s : leb 4 n ≡ false). absurd (let e : false ≡ true = rw s at t in let z : _≡_ {A = ℕ} 0 1 = cc in omega arith))
 

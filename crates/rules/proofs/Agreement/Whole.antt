@@ -1,5 +1,5 @@
 -- The rules and Rcc::freeze agree.
-use mathlib.Core.Path.{_≡_, refl, ap, _∙_, subst}
+use mathlib.Core.Path.{_≡_, refl, sym, ap, _∙_, subst}
 use mathlib.Core.List.{List, [], _∷_, _++_, append-assoc}
 use mathlib.Core.Logic.{⊎-elim}
 use mathlib.Core.Bool.{Bool, true, false}
@@ -34,13 +34,18 @@ use Rattle.rules.specs.Rust.Rcc as F
 use Rattle.rules.specs.Rust.CoreClocks.{CoreClocks}
 use Rattle.rules.specs.Rust.Rcc.{DefaultX2, sys-ck-of, match-per-ck, swbits, buses-calculate, mcos-calculate, start-clocks, start-plls, switch-clocks, clocks-of, frozen}
 use Rattle.rules.specs.Demands.Report.{reported}
-use Rattle.rules.specs.Demands.Agreement.{oddP, Departure, Agreement}
-use Rattle.laws.proofs.Tests.{by-test}
+use Rattle.rules.specs.Demands.Agreement.{Cause, Departure, AllowsEachP, Agreement}
+use Rattle.rules.specs.Demands.Legal.{LegalPlan}
+use Rattle.laws.proofs.Tests.{by-test, never}
+use Rattle.rules.proofs.Document01.Results.{Holds, Only, holds-more}
+use Rattle.rules.proofs.Legal.Plan.{chosen-legal}
 use Rattle.rules.proofs.Agreement.Agree.{Agree, AgreeOrDepart, departs-still, agree-then, depart-then, agree-always}
 use Rattle.rules.proofs.Agreement.Config.{configAfter, sysCk}
 use Rattle.rules.proofs.Agreement.Buses.{SameBuses, buses-agree}
 use Rattle.rules.proofs.Agreement.Mcos.{clocksOf, mcosRust, KeptMcos, mcos-agree}
 use Rattle.rules.proofs.Agreement.Plls.{Ready, Stated, SameReady, ready, plls-ready}
+use Rattle.rules.proofs.Agreement.Causes.{Told, plan-told}
+use Rattle.rules.proofs.Agreement.Allowed.{plan-allowed}
 use Rattle.rules.proofs.Agreement.Split.{afterAsserts, rest, rest-keeps, frozen-parts}
 use Rattle.rules.proofs.Agreement.Writes.{clockTail, clocks-end, pllTail, plls-end}
 
@@ -142,40 +147,53 @@ module _ (q : Request) (c : ChipState) (l : R.Plls) (asked1 : PllRequest) (neede
       (agree-then (KeptMcos es2) Final (mcosOf q l sys) (mcos-calculate sys (configAfter q asked1) (clocksOf l) es2) _ _ (mcos-agree q asked1 l sys es2 (st .one) (st .two))
       (λ m es4 rm k. rw (k .0, k .1) (ending b m rb (record { kept = refl; some = s .some; hclk = s .hclk; pclk1 = s .pclk1; pclk2 = s .pclk2; pclk3 = s .pclk3 })))))
 
-  pub rest-agrees : AgreeOrDepart (oddP c) Final (afterPlls q c l) (rest c r es0)
-  rest-agrees = agree-always (Departure (oddP c)) Final (afterPlls q c l) (rest c r es0) (rw (system-ends q asked1 l es0 needed) (asserted (c .hsion) (eqb (c .hsidiv) 2) _ (afterAsserts c r sys) es0 running))
+  pub rest-agrees : AgreeOrDepart q c Final (afterPlls q c l) (rest c r es0)
+  rest-agrees = agree-always (Departure q c) Final (afterPlls q c l) (rest c r es0) (rw (system-ends q asked1 l es0 needed) (asserted (c .hsion) (eqb (c .hsidiv) 2) _ (afterAsserts c r sys) es0 running))
 
 -- ---- the whole
-pub all-agree : (q : Request) (c : ChipState) → AgreeOrDepart (oddP c) Final (chosenPlan q c) (frozen q c)
+pub all-agree : (q : Request) (c : ChipState) → AgreeOrDepart q c Final (chosenPlan q c) (frozen q c)
 unfolding chosenPlan
 all-agree q c =
     rw (frozen-parts q c)
-    (depart-then (SameReady q c) Final (pllsOf q c) (ready q c) _ _ (oddP c) (plls-ready q c) (λ n es r d. rest-keeps (Departure (oddP c) n) (departs-still (oddP c) n) c r es d)
+    (depart-then (SameReady q c) Final (pllsOf q c) (ready q c) _ _ (Departure q c) (plls-ready q c) (λ n es r d. rest-keeps (Departure q c n) (departs-still q c n) c r es d)
     (λ l es r h. rw (h .entries, h .value) (rest-agrees q c l (h .asked1) (h .needed) (h .third) (h .states))))
 
-agreement-of : (odd : ℕ → Bool) (x : Result Plan) (o : Outcome CoreClocks) → AgreeOrDepart odd Final x o → Agreement odd (answered x) o
-unfolding entriesOf
-agreement-of odd (refused n) panics h = record {
-  planned = λ e. absurd (let z : _≡_ {A = ℕ} 0 1 = cc in omega arith);
-  panicked = λ e. (n, refl);
-  refused = λ m e d14 d15. refl;
-  departed = λ m es k e f. absurd (let z : _≡_ {A = ℕ} 0 1 = cc in omega arith);
-}
-agreement-of odd (refused n) (ends es k) h = record {
-  planned = λ e. absurd (let z : _≡_ {A = ℕ} 0 1 = cc in omega arith);
-  panicked = λ e. absurd (let z : _≡_ {A = ℕ} 0 1 = cc in omega arith);
-  refused = λ m e d14 d15. let d : Departure odd m es = subst (λ (x : Refusal). Departure odd x es) (cc) h in absurd (⊎-elim (λ w. d14 (w .0)) (λ w. d15 (w .0)) (d .which));
-  departed = λ m es′ k′ e f. let d : Departure odd m es = subst (λ (x : Refusal). Departure odd x es) (cc) h in subst (λ (l : List Entry). Departure odd m l) (cc) d;
-}
-agreement-of odd (ok p) panics h = absurd h
-agreement-of odd (ok p) (ends es k) h = record {
-  planned = λ e. ap (λ (x : List Entry). ends x k) (h .0) ∙ ap (λ (x : CoreClocks). ends (planEntries p) x) (h .1);
-  panicked = λ e. absurd (let z : _≡_ {A = ℕ} 0 1 = cc in omega arith);
-  refused = λ m e d14 d15. absurd (let z : _≡_ {A = ℕ} 0 1 = cc in omega arith);
-  departed = λ m es k e f. absurd (let z : _≡_ {A = ℕ} 0 1 = cc in omega arith);
-}
+-- freeze ends as the plan says, and 14 and 15 have their cause
+module _ (q : Request) (c : ChipState) where
+  agreement-of : (x : Result Plan) (o : Outcome CoreClocks) → AgreeOrDepart q c Final x o → Only (Told (Cause q c)) x → Holds (λ p. AllowsEachP c (planEntries p)) x → Agreement q c (answered x) o
+  unfolding entriesOf
+  agreement-of (refused n) panics h w l = record {
+    exactly = (λ e. absurd (let z : _≡_ {A = ℕ} 0 1 = cc in omega arith), λ r. absurd (let f = r .end in let z : _≡_ {A = ℕ} 0 1 = cc in omega arith));
+    planned = λ e. absurd (let z : _≡_ {A = ℕ} 0 1 = cc in omega arith);
+    panicked = λ e. (n, refl);
+    refused = λ m e d14 d15. refl;
+    caused = λ m e. subst (λ (x : Refusal). Told (Cause q c) x) (cc) w;
+    departed = λ m es k e f. absurd (let z : _≡_ {A = ℕ} 0 1 = cc in omega arith);
+  }
+  agreement-of (refused n) (ends es k) h w l = record {
+    exactly = (
+      λ e. absurd (let z : _≡_ {A = ℕ} 0 1 = cc in omega arith),
+      λ r. let f : es ≡ r .entries = let g = r .end in cc in
+          let t = r .allowed (h .pll) _ (h .at .before) (h .at .after) (h .there) (sym f ∙ h .at .written) in
+          absurd (never (sym t ∙ h .at .forbidden)),
+    );
+    planned = λ e. absurd (let z : _≡_ {A = ℕ} 0 1 = cc in omega arith);
+    panicked = λ e. absurd (let z : _≡_ {A = ℕ} 0 1 = cc in omega arith);
+    refused = λ m e d14 d15. let d : Departure q c m es = subst (λ (x : Refusal). Departure q c x es) (cc) h in absurd (⊎-elim (λ w. d14 (w .0)) (λ w. d15 (w .0)) (d .at .why .which));
+    caused = λ m e. subst (λ (x : Refusal). Told (Cause q c) x) (cc) w;
+    departed = λ m es′ k′ e f. let d : Departure q c m es = subst (λ (x : Refusal). Departure q c x es) (cc) h in subst (λ (l : List Entry). Departure q c m l) (cc) d;
+  }
+  agreement-of (ok p) panics h w l = absurd h
+  agreement-of (ok p) (ends es k) h w l = record {
+    exactly = (λ e. record { entries = es; clocks = k; end = refl; allowed = subst (AllowsEachP c) (sym (h .0)) l }, λ r. refl);
+    planned = λ e. ap (λ (x : List Entry). ends x k) (h .0) ∙ ap (λ (x : CoreClocks). ends (planEntries p) x) (h .1);
+    panicked = λ e. absurd (let z : _≡_ {A = ℕ} 0 1 = cc in omega arith);
+    refused = λ m e d14 d15. absurd (let z : _≡_ {A = ℕ} 0 1 = cc in omega arith);
+    caused = λ m e. absurd (let z : _≡_ {A = ℕ} 0 1 = cc in omega arith);
+    departed = λ m es k e f. absurd (let z : _≡_ {A = ℕ} 0 1 = cc in omega arith);
+  }
 
 -- for every request, whether or not the setters can build it
-pub agreement : (q : Request) (c : ChipState) → Agreement (oddP c) (answerTo q c) (frozen q c)
+pub agreement : (q : Request) (c : ChipState) → Agreement q c (answerTo q c) (frozen q c)
 unfolding answerTo
-agreement q c = agreement-of (oddP c) (chosenPlan q c) (frozen q c) (all-agree q c)
+agreement q c = agreement-of q c (chosenPlan q c) (frozen q c) (all-agree q c) (plan-told q c) (holds-more (LegalPlan q c) _ (chosenPlan q c) (plan-allowed c q) (chosen-legal q c))

@@ -97,7 +97,7 @@ module _ (P : Refusal → Type 0) (one : P OutsideCodes) where
   after-hertz : {B : Type 0} (bytes : List ℕ) (k : Read Hertz → Result B) → ((x : Read Hertz) → Only P (k x)) → Only P (hertz bytes >>= k)
   after-hertz bytes k f = only-then P (hertz bytes) k (hertz-only bytes) f
 
-  request-only : (three : Bool) → Refuses (requestPart three)
+  pub request-only : (three : Bool) → Refuses (requestPart three)
   unfolding requestPart
   request-only three bytes =
       after-hertz bytes _ (λ x. after-hertz (x .rest) _ (λ x. after-hertz (x .rest) _ (λ x. after-hertz (x .rest) _ (λ x. after-hertz (x .rest) _

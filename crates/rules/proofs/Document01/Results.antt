@@ -36,6 +36,11 @@ pub holds-known : {A B : Type 0} (P : B → Type 0) (Q : A → Type 0) (x : Resu
 holds-known P Q (refused n) k q h = tt
 holds-known P Q (ok a) k q h = h a q
 
+-- what follows from what holds
+pub holds-more : {A : Type 0} (P Q : A → Type 0) (x : Result A) → ((a : A) → P a → Q a) → Holds P x → Holds Q x
+holds-more P Q (refused n) f h = tt
+holds-more P Q (ok a) f h = f a h
+
 -- two things that hold
 pub holds-both : {A : Type 0} (P Q : A → Type 0) (x : Result A) → Holds P x → Holds Q x → Holds (λ a. P a × Q a) x
 holds-both P Q (refused n) p q = tt
@@ -45,6 +50,10 @@ holds-both P Q (ok a) p q = (p, q)
 abbrev pub Only : {A : Type 0} → (Refusal → Type 0) → Result A → Type 0
 Only P (refused n) = P n
 Only P (ok a) = Unit {0}
+
+pub only-weaker : {A : Type 0} (P Q : Refusal → Type 0) (x : Result A) → ((n : Refusal) → P n → Q n) → Only P x → Only Q x
+only-weaker P Q (refused n) f h = f n h
+only-weaker P Q (ok a) f h = tt
 
 module _ (P : Refusal → Type 0) where
   pub only-require : (b : Bool) (n : Refusal) → P n → Only P (require b n)
@@ -61,6 +70,11 @@ module _ (P : Refusal → Type 0) where
 
   pub only-tested : {B : Type 0} (b : Bool) (n : Refusal) (r : Result B) → P n → Only P r → Only P (require b n >> r)
   only-tested b n r h f = only-next (require b n) r (only-require b n h) f
+
+  -- behind a step of which something is known
+  pub only-known : {A B : Type 0} (Q : A → Type 0) (x : Result A) (k : A → Result B) → Only P x → Holds Q x → ((a : A) → Q a → Only P (k a)) → Only P (x >>= k)
+  only-known Q (refused n) k h q f = h
+  only-known Q (ok a) k h q f = f a q
 
 -- ---- steps that came to a value: each step came to one, and each test held
 pub bind-ok : {A B : Type 0} (r : Result A) (k : A → Result B) (v : B) → (r >>= k) ≡ ok v → (a : A) × (r ≡ ok a) × (k a ≡ ok v)

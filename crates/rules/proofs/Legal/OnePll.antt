@@ -1,10 +1,10 @@
 -- A PLL that is planned has legal numbers: the laws of a range and of the dividers, and what `pllOf` comes to.
-use mathlib.Core.Path.{_≡_, refl, sym, subst, _∙_}
+use mathlib.Core.Path.{_≡_, refl, sym, ap, subst, _∙_}
 use mathlib.Core.Logic.{_⊎_, inl, inr, ⊎-elim}
 use mathlib.Core.Bool.{Bool, true, false, _&&_, _||_}
 use Prim.Native.Nat.{ℕ, _+_, _-_, _*_, _/_, _%_, _≤_, _<_, _^_}
 use native.Mathlib.Omega.{arith}
-use native.Mathlib.Nat.{le-trans, le-of-lt, lt-of-le-of-lt, le-div-iff-mul-le, div-lt-iff-lt-mul, mul-comm, mul-div-le, div-add-mod', mod-lt, div-le-self}
+use native.Mathlib.Nat.{le-trans, le-of-lt, lt-of-le-of-lt, le-div-iff-mul-le, div-lt-iff-lt-mul, mul-comm, mul-le-mul-right, mul-lt-mul-of-pos-right, mul-div-le, div-add-mod', mod-lt, div-le-self}
 use lib.Dec.{leb, ltb, eqb, lit≤, lit<}
 use lib.Ieee.{Float, le, ofInt, toUnsigned}
 use lib.Ieee.Casts.{toUnsigned-lt}
@@ -29,14 +29,15 @@ use Rattle.rules.proofs.Document01.Target.{divider-le, divider-pos}
 use Rattle.ieee754.specs.Steps.{float, fracnFloat, fracnOf}
 use Rattle.ieee754.specs.Whole.{fracnWhole, vcoWhole}
 use Rattle.ieee754.proofs.Same.{fracn-same, vco-same}
-use Rattle.laws.proofs.Numbers.{le-div, div-le}
+use Rattle.ieee754.proofs.Near.{fracn-below}
+use Rattle.laws.proofs.Numbers.{le-div, div-le, below, above}
 use Rattle.ieee754.proofs.Cut.{cut-in, zero8191}
 use Rattle.rules.specs.Document01.Result.{Result, refused, ok, _>>_}
-use Rattle.rules.specs.Document01.Hertz.{hertzOr, orElse, notZero}
+use Rattle.rules.specs.Document01.Hertz.{isSet, hertzOr, orElse, notZero}
 use Rattle.rules.specs.Document01.OnePll.{wanted, noneZero, countedP, countedOutputs, least, largest, Range, medium, wide, rangeOf, rgeOf, firstOf, taken, fractionOf, vcoBy, outputOf, dividerP, allowedP, spanned, dividedBy, settingsOf, settled, runs, running, pllOf}
-use Rattle.rules.specs.Demands.Legal.{LegalOutput, LegalP, LegalVco, Legal, LegalPll}
+use Rattle.rules.specs.Demands.Legal.{LegalOutput, LegalP, dividerOr, firstDivider, LegalVco, Legal, LegalPll}
 use Rattle.rules.specs.Manual.PllFields.{rgeSpan, vcoSpan, inputSpan, Within, FieldFracn}
-use Rattle.laws.proofs.Tests.{by-test, and-left, and-right}
+use Rattle.laws.proofs.Tests.{by-test, never, and-left, and-right}
 use Rattle.rules.proofs.Document01.Results.{Holds, holds-tested, holds-known, holds-both}
 use Rattle.rules.proofs.Document01.Multiplier.{range-kind}
 use Rattle.rules.proofs.Document01.Span.{Pos, pos-is, Inside, Span, span}
@@ -106,17 +107,19 @@ fraction-bounded Fractional ref n d o =
     (λ (n : le f (float 8191) ≡ false). rw (s, n) tt))
     (λ (n : le (float 0) f ≡ false). rw n tt)
 
--- the same FRACN over whole numbers
-abbrev InWhole : (ref n d o : ℕ) → Fraction → Type 0
-InWhole ref n d o Whole = Unit {0}
-InWhole ref n d o (Part f) = fracnWhole ref n d o ≡ Value f
+-- the same FRACN over whole numbers, in Fractional and only there
+abbrev InWhole : Strategy → (ref n d o : ℕ) → Fraction → Type 0
+InWhole Integer ref n d o Whole = Unit {0}
+InWhole Integer ref n d o (Part f) = ⊥
+InWhole Fractional ref n d o Whole = ⊥
+InWhole Fractional ref n d o (Part f) = fracnWhole ref n d o ≡ Value f
 
 module _ (ref n d o : ℕ) (r1 : 0 < ref) (r32 : ref < 2 ^ 32) (n32 : n < 2 ^ 32) (d32 : d < 2 ^ 32) (o32 : o < 2 ^ 32) where
-  taken-whole : (v : Fracn) → fracnOf (float ref) (float n) (float d) (float o) ≡ v → Holds (InWhole ref n d o) (taken v)
+  taken-whole : (v : Fracn) → fracnOf (float ref) (float n) (float d) (float o) ≡ v → Holds (InWhole Fractional ref n d o) (taken v)
   taken-whole (Value f) e = sym (fracn-same ref n d o r1 r32 n32 d32 o32) ∙ e
   taken-whole OutOfRange e = tt
 
-  fraction-whole : (s : Strategy) → Holds (InWhole ref n d o) (fractionOf s ref n d o)
+  fraction-whole : (s : Strategy) → Holds (InWhole s ref n d o) (fractionOf s ref n d o)
   fraction-whole Integer = tt
   fraction-whole Fractional = taken-whole (fracnOf (float ref) (float n) (float d) (float o)) refl
 
@@ -138,7 +141,7 @@ rge-within source m h l u =
     down k f = le-div-iff-mul-le {k = m} {x = k} {y = source} h .0 (ltb-false (source / m) k f)
 
 -- ---- the outputs
-output-legal : (target vco : ℕ) (h : Hertz) → Divides target h → LegalOutput vco (outputOf target vco h)
+output-legal : (target vco : ℕ) (h : Hertz) → Divides target h → LegalOutput vco h (outputOf target vco h)
 output-legal target vco Unset d = tt
 output-legal target vco (Hz h) d = record { some = d .0; field = let l : target / h ≤ 128 = d .1 in omega arith; hertz = refl }
 
@@ -155,7 +158,7 @@ spans g (inl e) = rw e (refl, refl)
 spans g (inr e) = rw e (refl, refl)
 
 -- ---- one PLL
-module _ (odd : Bool) (source : ℕ) (a : PllRequest) (g : Range) (target m : ℕ) (c : Admissible source (g .low) (g .high) m) (st : g .start ≤ target) (en : target ≤ g .end) (small : g .end ≤ 560_000_000) (kind : (g ≡ medium) ⊎ (g ≡ wide)) (first32 : firstOf a < 2 ^ 32) (dp : SomeDivider target (a .p)) (dq : Divides target (a .q)) (dr : Divides target (a .r)) where
+module _ (odd : Bool) (source : ℕ) (a : PllRequest) (g : Range) (target m : ℕ) (c : Admissible source (g .low) (g .high) m) (st : g .start ≤ target) (en : target ≤ g .end) (small : g .end ≤ 560_000_000) (kind : (g ≡ medium) ⊎ (g ≡ wide)) (first32 : firstOf a < 2 ^ 32) (wants : wanted a ≡ true) (dp : SomeDivider target (a .p)) (dq : Divides target (a .q)) (dr : Divides target (a .r)) where
   abbrev ref : ℕ
   ref = source / m
 
@@ -190,16 +193,86 @@ module _ (odd : Bool) (source : ℕ) (a : PllRequest) (g : Range) (target m : �
   first-32 : target / firstOf a < 2 ^ 32
   first-32 = lt-of-le-of-lt (div-le-self target (firstOf a)) target-32
 
+  -- the manual's VCO
+  n-from : target < ref * n + ref
+  n-from = omega (arith, div-add-mod' target ref, mod-lt target ref-some, mul-comm ref n)
+
+  exact-low : g .start * m < source * n + source
+  exact-low =
+      let le : ref * m ≤ source = below source m in
+      let a : target * m < (ref * n + ref) * m = mul-lt-mul-of-pos-right n-from (c .above) in
+      let b : (ref * m) * (n + 1) ≤ source * (n + 1) = mul-le-mul-right (n + 1) le in
+      let d : g .start * m ≤ target * m = mul-le-mul-right m st in
+      let e : (ref * n + ref) * m ≡ (ref * m) * (n + 1) = omega arith in
+      let f : source * (n + 1) ≡ source * n + source = omega arith in
+      omega arith
+
+  exact-high : 4 ≤ n → source * n < (g .end + n) * m
+  exact-high four =
+      let gt : source < ref * m + m = above source m (c .above) in
+      let a : source * n < (ref * m + m) * n = mul-lt-mul-of-pos-right gt (omega arith) in
+      let b : ref * n ≤ g .end = le-trans (mul-div-le target ref) en in
+      let d : (ref * n + n) * m ≤ (g .end + n) * m = mul-le-mul-right m (omega arith) in
+      let e : (ref * m + m) * n ≡ (ref * n + n) * m = omega arith in
+      omega arith
+
+  ref-most : ref ≤ 16_000_000
+  ref-most = div-le m (subst (λ (x : ℕ). source ≤ x) (mul-comm 16_000_000 m) (ends .1))
+
+  part-high : (f : ℕ) → 4 ≤ n → n ≤ 512 → target / firstOf a ≤ 128 → fracnWhole ref n (target / firstOf a) (firstOf a) ≡ Value f → source * (8192 * n + f) < (8192 * (g .end + 166) + (8192 * n + f)) * m
+  part-high f four most few v =
+      let od : firstOf a * (target / firstOf a) ≤ g .end = le-trans (mul-div-le target (firstOf a)) en in
+      let l : ref * (8192 * n + f) ≤ 8192 * (g .end + 166) = fracn-below ref n (target / firstOf a) (firstOf a) (g .end) (sixty-fours .0) f ref-some ref-most most few od small (sixty-fours .1) v in
+      go (8192 * n + f) (8192 * (g .end + 166)) l (omega arith)
+    where
+      sixty-fours : (k : ℕ) × (g .end + 64 ≡ k * 64)
+      sixty-fours = ⊎-elim (λ (e : g ≡ medium). (6_562_501, ap (λ (x : Range). x .end + 64) e)) (λ (e : g ≡ wide). (8_750_001, ap (λ (x : Range). x .end + 64) e)) kind
+
+      go : (x most : ℕ) → ref * x ≤ most → 1 ≤ x → source * x < (most + x) * m
+      go x most l k =
+          let gt : source < ref * m + m = above source m (c .above) in
+          let p : source * x < (ref * m + m) * x = mul-lt-mul-of-pos-right gt k in
+          let q : (ref * x + x) * m ≤ (most + x) * m = mul-le-mul-right m (omega arith) in
+          let e : (ref * m + m) * x ≡ (ref * x + x) * m = omega arith in
+          omega arith
+
+  -- the first divider that is on
+  first-divider : (f : Fraction) → wanted a ≡ true → firstDivider (settings f) ≡ target / firstOf a
+  first-divider f w = go (a .p) (a .q) (a .r) w
+    where
+      go : (p q r : Hertz) → isSet p || (isSet q || isSet r) ≡ true → dividerOr (outputOf target (vcoBy f ref n) p) (dividerOr (outputOf target (vcoBy f ref n) q) (dividerOr (outputOf target (vcoBy f ref n) r) 0)) ≡ target / hertzOr (orElse p (orElse q r)) 0
+      go (Hz p) q r w = refl
+      go Unset (Hz q) r w = refl
+      go Unset Unset (Hz r) w = refl
+      go Unset Unset Unset w = absurd (never (sym w))
+
+  first-few : Divides target (a .p) → target / firstOf a ≤ 128
+  first-few d = go (a .p) (a .q) (a .r) d dq dr wants
+    where
+      go : (p q r : Hertz) → Divides target p → Divides target q → Divides target r → isSet p || (isSet q || isSet r) ≡ true → target / hertzOr (orElse p (orElse q r)) 0 ≤ 128
+      go (Hz p) q r i j k w = i .1
+      go Unset (Hz q) r i j k w = j .1
+      go Unset Unset (Hz r) i j k w = k .1
+      go Unset Unset Unset i j k w = absurd (never (sym w))
+
   -- FRACN, and the VCO
-  vco-legal : (f : Fraction) → Bounded f → InWhole ref n (target / firstOf a) (firstOf a) f → LegalVco (firstOf a) (settings f) f
-  vco-legal Whole b w =
+  vco-legal : (s : Strategy) (f : Fraction) → 4 ≤ n → n ≤ 512 → Divides target (a .p) → Bounded f → InWhole s ref n (target / firstOf a) (firstOf a) f → LegalVco s source (firstOf a) (settings f) f
+  vco-legal Integer Whole four most d b w =
       let span = spans g kind .1 in
       let below : ref * n ≤ target = mul-div-le target ref in
-      let above : target < ref * n + ref = omega (arith, div-add-mod' target ref, mod-lt target ref-some, mul-comm ref n) in
-      record { product = refl; from = rw span (omega arith); to = rw span (omega arith) }
-  vco-legal (Part f) b w = record { field = b; fracn = w; vco = vco-same ref n f ref-32 n-32 (let l : f ≤ 8191 = b in omega arith) }
+      let above : target < ref * n + ref = n-from in
+      record { product = refl; from = rw span (omega arith); to = rw span (omega arith); exact-from = rw span exact-low; exact-to = rw span (exact-high four) }
+  vco-legal Integer (Part f) four most d b w = w
+  vco-legal Fractional Whole four most d b w = w
+  vco-legal Fractional (Part f) four most d b w = record {
+    field = b;
+    fracn = rw (first-divider (Part f) wants) w;
+    vco = vco-same ref n f ref-32 n-32 (let l : f ≤ 8191 = b in omega arith);
+    exact-from = rw (spans g kind .1) (let l = exact-low in let e : source * (8192 * n + f) ≡ 8192 * (source * n) + source * f = omega arith in omega arith);
+    exact-to = rw (spans g kind .1) (part-high f four most (first-few d) w);
+  }
 
-  allowed-legal : (f : Fraction) → Bounded f → InWhole ref n (target / firstOf a) (firstOf a) f → leb 4 n && leb n 512 ≡ true → Holds (Legal odd source a) (allowedP odd (dividerP target (a .p)) >> ok (settings f))
+  allowed-legal : (f : Fraction) → Bounded f → InWhole (a .strategy) ref n (target / firstOf a) (firstOf a) f → leb 4 n && leb n 512 ≡ true → Holds (Legal odd source a) (allowedP odd (dividerP target (a .p)) >> ok (settings f))
   allowed-legal f b w t =
       let four : 4 ≤ n = leb-true 4 n (and-left (leb 4 n) (leb n 512) t) in
       let most : n ≤ 512 = leb-true n 512 (and-right (leb 4 n) (leb n 512) t) in
@@ -208,13 +281,14 @@ module _ (odd : Bool) (source : ℕ) (a : PllRequest) (g : Range) (target m : �
       by-test (odd || eqb (dividerP target (a .p) % 2) 0)
       (λ (e : odd || eqb (dividerP target (a .p) % 2) 0 ≡ true).
       rw (s, e) (record {
+        asked = wants;
         m = record { from = c .above; to = c .within };
         rge = rge-within source m (c .above) (ends .0) (ends .1);
         input = rw (spans g kind .0) (record { from = lows; to = highs });
         reference = refl;
         n = record { from = omega arith; to = omega arith };
         target = rw (spans g kind .1) (record { from = omega arith; to = omega arith });
-        vco = vco-legal f b w;
+        vco = vco-legal (a .strategy) f four most (divides-p target (a .p) dp s) b w;
         p = output-legal target (vcoBy f ref n) (a .p) (divides-p target (a .p) dp s);
         q = output-legal target (vcoBy f ref n) (a .q) dq;
         r = output-legal target (vcoBy f ref n) (a .r) dr;
@@ -227,8 +301,8 @@ module _ (odd : Bool) (source : ℕ) (a : PllRequest) (g : Range) (target m : �
   unfolding settled
   settled-legal =
       holds-tested (Legal odd source a) (leb 4 n && leb n 512) NOutside _
-      (λ t. holds-known (Legal odd source a) (λ f. Bounded f × InWhole ref n (target / firstOf a) (firstOf a) f) (fractionOf (a .strategy) ref n (target / firstOf a) (firstOf a)) _
-      (holds-both Bounded (InWhole ref n (target / firstOf a) (firstOf a)) (fractionOf (a .strategy) ref n (target / firstOf a) (firstOf a))
+      (λ t. holds-known (Legal odd source a) (λ f. Bounded f × InWhole (a .strategy) ref n (target / firstOf a) (firstOf a) f) (fractionOf (a .strategy) ref n (target / firstOf a) (firstOf a)) _
+      (holds-both Bounded (InWhole (a .strategy) ref n (target / firstOf a) (firstOf a)) (fractionOf (a .strategy) ref n (target / firstOf a) (firstOf a))
       (fraction-bounded (a .strategy) ref n (target / firstOf a) (firstOf a))
       (fraction-whole ref n (target / firstOf a) (firstOf a) ref-some ref-32 n-32 first-32 first32 (a .strategy)))
       (λ f k. allowed-legal f (k .0) (k .1) t))
@@ -266,7 +340,7 @@ module _ (odd : Bool) (source : ℕ) (a : PllRequest) (w : wanted a ≡ true) wh
       let t1 : 128_000_000 ≤ target = le-trans (gd .from) st in
       let top : most < 560_000_000 = ltb-true most 560_000_000 t9 in
       let first32 : firstOf a < 2 ^ 32 = lt-of-le-of-lt (first-most odd (a .p) (a .q) (a .r) low most (sp .inP) (sp .inQ) (sp .inR)) (omega arith) in
-      settled-legal odd source a g target m (chosen-some source target (g .low) (g .high) m e .admissible) st en (gd .to) (range-kind most) first32
+      settled-legal odd source a g target m (chosen-some source target (g .low) (g .high) m e .admissible) st en (gd .to) (range-kind most) first32 w
       (divider-p low most g (sp .above) (sp .order) gd far t1 odd (a .p) (sp .inP) pp)
       (divider-q low most g (sp .above) (sp .order) gd far t1 (a .q) (sp .inQ) pq)
       (divider-q low most g (sp .above) (sp .order) gd far t1 (a .r) (sp .inR) pr)
@@ -296,4 +370,4 @@ running-legal odd source a (ok s) h = h
 pub pll-legal : (odd : Bool) (source : ℕ) (a : PllRequest) → Holds (LegalPll odd source a) (pllOf odd source a)
 unfolding pllOf
 pll-legal odd source a =
-    by-test (wanted a) (λ (w : wanted a ≡ true). rw w (running-legal odd source a (runs odd source a) (runs-legal odd source a w))) (λ (w : wanted a ≡ false). rw w tt)
+    by-test (wanted a) (λ (w : wanted a ≡ true). rw w (running-legal odd source a (runs odd source a) (runs-legal odd source a w))) (λ (w : wanted a ≡ false). rw w w)

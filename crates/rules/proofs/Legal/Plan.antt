@@ -1,9 +1,10 @@
 -- Every plan is legal: demand 2, the manuals and IEEE 754.
 use mathlib.Core.Path.{_≡_, refl, subst}
-use mathlib.Core.Bool.{true, false}
+use mathlib.Core.Bool.{Bool, true, false, cond}
 use Prim.Native.Nat.{ℕ}
 use native.Mathlib.Omega.{arith}
 use Rattle.types.specs.declared.PllRequest.{PllRequest}
+use Rattle.types.specs.declared.Pll.the-variants.{Idle}
 use Rattle.types.specs.declared.Request.{Request}
 use Rattle.types.specs.declared.ChipState.{ChipState}
 use Rattle.types.specs.declared.Plan.{Plan}
@@ -13,7 +14,7 @@ use Rattle.rules.specs.Document01.Result.{Result, refused, ok}
 use Rattle.rules.specs.Document01.Request.{pllAt, limited, stated, pll1Asked, pll2Asked, sourceOf, systemOf, needsPll1, like, withP, askedOf, forSystemClock, sourced}
 use Rattle.rules.specs.Document01.OnePll.{pllOf}
 use Rattle.rules.specs.Document01.Plan.{Plls, thirdOf, pllsOf, hsiReady, systemFrom, busesOf, mcosOf, planWith, chosenPlan, answered, answerTo}
-use Rattle.rules.specs.Demands.Legal.{LegalPll, LegalPlan}
+use Rattle.rules.specs.Demands.Legal.{LegalPll, LegalThird, LegalPlan}
 use Rattle.laws.proofs.Tests.{by-test}
 use Rattle.rules.proofs.Document01.Results.{Holds, holds-then, holds-next, holds-tested, holds-known}
 use Rattle.rules.proofs.Legal.Flash.{flash-asked}
@@ -22,7 +23,7 @@ use Rattle.rules.proofs.Legal.OnePll.{pll-legal}
 pub record LegalPlls (q : Request) (c : ChipState) (l : Plls) : Type 0 where
   pub pll1 : LegalPll (c .odd1) (sourceOf q) (askedOf q 0) (l .pll1)
   pub pll2 : LegalPll (c .odd2) (sourceOf q) (askedOf q 1) (l .pll2)
-  pub pll3 : LegalPll (c .odd3) (sourceOf q) (askedOf q 2) (l .pll3)
+  pub pll3 : LegalThird (c .three) (c .odd3) (sourceOf q) (askedOf q 2) (l .pll3)
 
 -- what PLL1 is asked for, once refusal 5 does not fit
 pub asked-first : (q : Request) → Holds (λ a. a ≡ askedOf q 0) (forSystemClock (needsPll1 q) (systemOf q) (pll1Asked q))
@@ -32,11 +33,14 @@ asked-first q =
     (λ t. rw t (holds-tested (λ a. a ≡ withP (pll1Asked q) (systemOf q)) (like (pll1Asked q .p) (systemOf q)) Pll1PUnlikeSystem _ (λ s. refl)))
     (λ f. rw f refl)
 
-third-legal : (q : Request) (c : ChipState) → Holds (LegalPll (c .odd3) (sourceOf q) (askedOf q 2)) (thirdOf q c)
-third-legal q c =
-    by-test (c .three) (λ (t : c .three ≡ true). rw t (pll-legal (c .odd3) (sourceOf q) (pllAt q 2))) (λ (f : c .three ≡ false). rw f tt)
+third-legal : (q : Request) (c : ChipState) → Holds (LegalThird (c .three) (c .odd3) (sourceOf q) (askedOf q 2)) (thirdOf q c)
+third-legal q c = go (c .three)
+  where
+    go : (t : Bool) → Holds (LegalThird t (c .odd3) (sourceOf q) (askedOf q 2)) (cond t (pllOf (c .odd3) (sourceOf q) (pllAt q 2)) (ok Idle))
+    go true = pll-legal (c .odd3) (sourceOf q) (pllAt q 2)
+    go false = refl
 
-plls-legal : (q : Request) (c : ChipState) → Holds (LegalPlls q c) (pllsOf q c)
+pub plls-legal : (q : Request) (c : ChipState) → Holds (LegalPlls q c) (pllsOf q c)
 unfolding pllsOf
 plls-legal q c =
     holds-next (LegalPlls q c) (limited q) _
@@ -45,10 +49,10 @@ plls-legal q c =
     (λ asked1 is. holds-next (LegalPlls q c) (sourced q) _
     (holds-known (LegalPlls q c) (LegalPll (c .odd1) (sourceOf q) asked1) (pllOf (c .odd1) (sourceOf q) asked1) _ (pll-legal (c .odd1) (sourceOf q) asked1)
     (λ x1 l1. holds-known (LegalPlls q c) (LegalPll (c .odd2) (sourceOf q) (pll2Asked q)) (pllOf (c .odd2) (sourceOf q) (pll2Asked q)) _ (pll-legal (c .odd2) (sourceOf q) (pll2Asked q))
-    (λ x2 l2. holds-known (LegalPlls q c) (LegalPll (c .odd3) (sourceOf q) (askedOf q 2)) (thirdOf q c) _ (third-legal q c)
+    (λ x2 l2. holds-known (LegalPlls q c) (LegalThird (c .three) (c .odd3) (sourceOf q) (askedOf q 2)) (thirdOf q c) _ (third-legal q c)
     (λ x3 l3. record { pll1 = subst (λ (a : PllRequest). LegalPll (c .odd1) (sourceOf q) a x1) is l1; pll2 = l2; pll3 = l3 })))))))
 
-chosen-legal : (q : Request) (c : ChipState) → Holds (LegalPlan q c) (chosenPlan q c)
+pub chosen-legal : (q : Request) (c : ChipState) → Holds (LegalPlan q c) (chosenPlan q c)
 unfolding chosenPlan planWith
 chosen-legal q c =
     holds-known (LegalPlan q c) (LegalPlls q c) (pllsOf q c) _ (plls-legal q c)

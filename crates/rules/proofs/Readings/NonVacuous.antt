@@ -26,15 +26,8 @@ use Rattle.rules.specs.Manual.Tree.{Chain, none, along, P, Q, R, Clock, 
 use Rattle.rules.specs.Demands.Report.{reported, hertzOf}
 use Rattle.rules.specs.Demands.Readings.{started, steady, Covered, TreeReads, TwoReadings, fedBy}
 use Rattle.rules.proofs.Computes.{byRules, byTree}
-use Rattle.rules.proofs.Samples.{pll, onHsi, system, state}
+use Rattle.rules.proofs.Samples.{pll, onHsi, fullest, state, state3, a, planA}
 use Rattle.rules.proofs.Readings.Link.{plan-reads}
-
--- A: odd P forbidden, system 250,000,000
-abbrev a : Request
-a = system 250_000_000 Unset
-
-abbrev planA : Planned
-planA = answerTo a (state false)
 
 -- D: PLL2 P 12,288,000 in Integer strategy
 abbrev d : Request
@@ -123,29 +116,10 @@ q-alone-dark = refl
 
 -- ---- a plan that covers every clock there is: HSE 8,000,000, three PLLs with all their outputs, both MCOs
 abbrev all : Request
-all = record {
-  hse = Hz 8_000_000;
-  lse = Unset;
-  audio = Unset;
-  system = Hz 250_000_000;
-  peripheral = Hz 8_000_000;
-  ahb = Hz 125_000_000;
-  apb1 = Hz 32_000_000;
-  apb2 = Hz 16_000_000;
-  apb3 = Hz 8_000_000;
-  bypass = false;
-  mco1source = Mco1Source.Pll1Q;
-  mco1 = Hz 12_500_000;
-  mco2source = Mco2Source.Sysclk;
-  mco2 = Hz 25_000_000;
-  plls =
-      record { strategy = Integer; p = Unset; q = Hz 125_000_000; r = Hz 50_000_000 }
-      ∷ record { strategy = Integer; p = Hz 12_288_000; q = Hz 24_576_000; r = Hz 6_144_000 }
-      ∷ record { strategy = Integer; p = Hz 30_000_000; q = Hz 100_000_000; r = Hz 48_000_000 } ∷ [];
-}
+all = fullest Unset Unset (Hz 48_000_000)
 
 abbrev planAll : Planned
-planAll = answerTo all (record { three = true; odd1 = true; odd2 = true; odd3 = true; scale = Scale0; hsion = true; hsidiv = 2 })
+planAll = answerTo all (state3 true true true)
 
 pub all-covered : (k : Clock) → (r : ℕ) × Covered all (planAll .plan) (started (planAll .plan)) k r
 unfolding byRules

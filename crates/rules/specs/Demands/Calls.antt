@@ -14,7 +14,7 @@ use Rattle.rules.specs.Document01.Refusals.{numberOf}
 use Rattle.rules.specs.Document01.Plan.{blankPlan, Asked, requestOf}
 use Rattle.rules.specs.Document01.Entries.{entriesOf}
 use Rattle.rules.specs.Rust.Rcc.{frozen}
-use Rattle.rules.specs.Demands.Agreement.{oddP, Agreement}
+use Rattle.rules.specs.Demands.Agreement.{Agreement}
 use Rattle.rules.specs.Demands.Legal.{LegalPlan}
 use Rattle.rules.specs.Demands.Readings.{Reads, BankReads}
 
@@ -47,7 +47,7 @@ Kept x b b₁ = (n : Refusal) → x .answer ≡ Refused n → b₁ ≡ b
 -- ---- demand 2
 -- what the Rust's setters and Rcc::freeze do with the request
 abbrev pub AsFreeze : (bytes : List ℕ) → Chip → Planned → Type 0
-AsFreeze bytes chip x = (a : Asked) → requestOf bytes chip ≡ ok a → Agreement (oddP (a .chip)) x (frozen (a .request) (a .chip))
+AsFreeze bytes chip x = (a : Asked) → requestOf bytes chip ≡ ok a → Agreement (a .request) (a .chip) x (frozen (a .request) (a .chip))
 
 -- what the manuals and IEEE 754 allow
 abbrev pub IsLegal : (bytes : List ℕ) → Chip → Planned → Type 0

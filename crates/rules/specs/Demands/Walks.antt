@@ -2,14 +2,15 @@
 use mathlib.Core.Path.{_≡_}
 use mathlib.Core.Logic.{_⊎_}
 use mathlib.Core.Bool.{Bool, true, false, cond}
-use mathlib.Core.List.{List, [], _∷_}
-use Prim.Native.Nat.{ℕ}
+use mathlib.Core.List.{List, [], _∷_, _++_, map}
+use Prim.Native.Nat.{ℕ, _≤_}
+use lib.ListN.{length}
 use Rattle.types.specs.declared.Entry.{Entry}
 use Rattle.types.specs.declared.Entry.the-variants.{Set, Set2, Set3, Set4, Wait, Wait2, Check, Read}
 use Rattle.types.specs.declared.Refusal.the-variants.{CsiDown}
 use Rattle.types.specs.declared.Shown.{Shown}
 use Rattle.types.specs.declared.Shown.the-variants.{Next, Finished, Stopped}
-use Rattle.rules.specs.Document01.Walk.{Stand, before, ended, shownOf, passes, isCheck}
+use Rattle.rules.specs.Document01.Walk.{Stand, before, ended, shownOf, passes, isCheck, steppedOf, transition}
 
 -- the values read for one step
 pub record Pair : Type 0 where
@@ -72,3 +73,25 @@ Satisfy [] [] = Unit {0}
 Satisfy [] (r ∷ rs) = ⊥
 Satisfy (e ∷ es) [] = ⊥
 Satisfy (e ∷ es) (r ∷ rs) = (passes e (r .a) (r .b) ≡ true) × Satisfy es rs
+
+-- over reads that pass each entry of a list in turn, the walk shows these entries in order, and then finished
+abbrev pub ShowsAll : Stand → List Entry → Type 0
+ShowsAll s es = (rs : List Pair) → Satisfy es rs → shows steppedOf s rs ≡ map Next es ++ (Finished ∷ [])
+
+-- ---- the voltage walk
+-- no value read shows a number
+abbrev pub NoneShows : ℕ → List Pair → Type 0
+NoneShows v [] = Unit {0}
+NoneShows v (r ∷ rs) = (r .a ≡ v → ⊥) × NoneShows v rs
+
+-- reads after which it can be finished, and no fewer will do: any number without ACTVOSRDY, one with it, the value of ACTVOS, and at least one for
+-- each entry that this value leaves
+pub record VoltageReads (target : ℕ) (rs : List Pair) : Type 0 where
+  pub waiting : List Pair
+  pub ready : Pair
+  pub actvos : Pair
+  pub rest : List Pair
+  pub all : rs ≡ waiting ++ (ready ∷ (actvos ∷ rest))
+  pub down : NoneShows 1 waiting
+  pub up : ready .a ≡ 1
+  pub enough : length (transition target (actvos .a)) ≤ length rest

@@ -29,9 +29,6 @@ returns-2 c = search needs
 returns-3 : tie.Need-returns-3
 returns-3 c = search needs
 
-returns-4 : tie.Need-returns-4
-returns-4 c = search needs
-
 pub first-spec : {M : Type 1} → statement M
 first-spec =
     tie.close
@@ -42,5 +39,4 @@ first-spec =
     slice-aggregate-name-number-2
     name-number-requires
     returns-2
-    returns-3
-    returns-4)
+    returns-3)

@@ -1,22 +1,21 @@
--- `plan::settings::each` meets its contract.
-use mathlib.Core.Path.{_≡_}
-use Prim.Native.Nat.{_≤_, _-_}
+-- `settings::compare::each` meets its contract.
+use Prim.Native.Nat.{_-_}
 use lib.ListN.{length}
 use borrow.Author.Needs.{needs}
-use Rattle.plan.proofs.settings.each.Statement.{statement}
-use Rattle.plan.proofs.settings.each.Tie as tie
+use Rattle.settings.proofs.compare.each.Statement.{statement}
+use Rattle.settings.proofs.compare.each.Tie as tie
 
 abbrev Inv-loop : tie.InvT-loop
-Inv-loop lines from₀ from = Unit
+Inv-loop lines t₀ from₀ t from = Unit
 
 abbrev μ-loop : tie.MeasureT-loop
-μ-loop lines from₀ from = length lines - from
+μ-loop lines t₀ from₀ t from = length lines - from
 
 loop-holds : tie.Need-loop-holds Inv-loop μ-loop
 loop-holds c = search needs
 
-line-end-requires : tie.Need-line-end-requires Inv-loop μ-loop
-line-end-requires c κs = search needs
+end-of-requires : tie.Need-end-of-requires Inv-loop μ-loop
+end-of-requires c κs = search needs
 
 sub-setting : tie.Need-sub-setting Inv-loop μ-loop
 sub-setting c = search needs
@@ -49,7 +48,7 @@ each-spec =
     Inv-loop
     μ-loop
     loop-holds
-    line-end-requires
+    end-of-requires
     sub-setting
     part-setting-start
     part-setting-end

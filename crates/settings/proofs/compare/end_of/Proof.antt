@@ -1,16 +1,15 @@
--- `plan::settings::line_end` meets its contract.
-use mathlib.Core.Path.{_≡_}
+-- `settings::compare::end_of` meets its contract.
 use Prim.Native.Nat.{_≤_, _-_}
 use lib.ListN.{length}
 use borrow.Author.Needs.{needs}
-use Rattle.plan.proofs.settings.line_end.Statement.{statement}
-use Rattle.plan.proofs.settings.line_end.Tie as tie
+use Rattle.settings.proofs.compare.end_of.Statement.{statement}
+use Rattle.settings.proofs.compare.end_of.Tie as tie
 
 abbrev Inv-loop : tie.InvT-loop
-Inv-loop lines from to₀ to = (from ≤ to) × (to ≤ length lines)
+Inv-loop text from mark to₀ to = (from ≤ to) × (to ≤ length text)
 
 abbrev μ-loop : tie.MeasureT-loop
-μ-loop lines from to₀ to = length lines - to
+μ-loop text from mark to₀ to = length text - to
 
 loop-holds : tie.Need-loop-holds Inv-loop μ-loop
 loop-holds c = search needs
@@ -33,8 +32,8 @@ loop-again c = search needs
 returns-2 : tie.Need-returns-2 Inv-loop μ-loop
 returns-2 c = search needs
 
-pub line-end-spec : {M : Type 1} → statement M
-line-end-spec =
+pub end-of-spec : {M : Type 1} → statement M
+end-of-spec =
     tie.close
     (tie.spec
     Inv-loop

@@ -1,0 +1,69 @@
+-- The C functions of the leaves as docs/CODES.md states them, in numbers.
+use mathlib.Core.Path.{_≡_, refl}
+use mathlib.Core.Bool.{Bool, true, false}
+use mathlib.Core.List.{List, [], _∷_, map}
+use Prim.Native.Nat.{ℕ}
+use Rattle.types.specs.declared.Fracn.the-variants.{Value, OutOfRange}
+use Rattle.types.specs.declared.Hertz.the-variants.{Unset, Hz}
+use Rattle.types.specs.declared.Refusal.the-variants.{AhbZero, McoRatio, OutsideCodes}
+use Rattle.types.specs.declared.ResetReason.the-variants.{PowerOnReset, PinReset, SystemReset, WindowWatchdogReset, IndependentWatchdogReset, GenericWatchdogReset, IllegalStopEntryReset, Unknown}
+use Rattle.prescaler.specs.declared.BusAnswer.{BusAnswer}
+use Rattle.prescaler.specs.declared.McoAnswer.{McoAnswer}
+use Rattle.flash.specs.declared.FlashWaits.the-variants.{Outside, Waits}
+use Rattle.reset_reason.specs.declared.ResetAnswer.{ResetAnswer}
+use Rattle.clock_leaves.specs.Leaves.{fracnCode, vcoCode, waitsCode, hertzIn, busCode, busRoom, mcoCode, mcoRoom, leafFits}
+use Rattle.clock_leaves.specs.Reasons.{reasonCode, reasonAnswer, reasonRoom}
+
+-- 0 power-on, 1 pin, 2 system, 3 window watchdog, 4 independent watchdog, 5 either watchdog, 6 illegal stop entry, 7 unknown
+pub reasons : map reasonCode (PowerOnReset ∷ PinReset ∷ SystemReset ∷ WindowWatchdogReset ∷ IndependentWatchdogReset ∷ GenericWatchdogReset ∷ IllegalStopEntryReset ∷ Unknown 9 ∷ [])
+    ≡ 0 ∷ 1 ∷ 2 ∷ 3 ∷ 4 ∷ 5 ∷ 6 ∷ 7 ∷ []
+reasons = refl
+
+-- the reason, the word as read, the word to write back; 1 and no word where the slice has another length, or the count is refused
+abbrev three : List ℕ
+three = 70 ∷ 71 ∷ 72 ∷ []
+
+pub reset-words :
+    reasonRoom true (ResetAnswer.Reason SystemReset 12) 11 three ∷ reasonRoom false (ResetAnswer.Reason SystemReset 12) 11 three ∷ reasonRoom true (ResetAnswer.Refused OutsideCodes) 11 three ∷ []
+    ≡ (2 ∷ 11 ∷ 12 ∷ []) ∷ three ∷ three ∷ []
+reset-words = refl
+
+pub reset-codes : reasonAnswer true (ResetAnswer.Reason SystemReset 12) ∷ reasonAnswer false (ResetAnswer.Reason SystemReset 12) ∷ reasonAnswer true (ResetAnswer.Refused OutsideCodes) ∷ [] ≡ 0 ∷ 1 ∷ 1 ∷ []
+reset-codes = refl
+
+-- FRACN 0 to 8191, or 8192 out of range; latency + 8 × delay, or 255
+pub step-codes : fracnCode (Value 66) ∷ fracnCode OutOfRange ∷ waitsCode (Waits 5 2) ∷ waitsCode Outside ∷ [] ≡ 66 ∷ 8192 ∷ 21 ∷ 255 ∷ []
+step-codes = refl
+
+-- a VCO's FRACN above 65,535
+pub wide-fracn : (reference n : ℕ) → vcoCode reference n 65_536 ≡ 0
+wide-fracn reference n = refl
+
+-- set is 0 for unset, 1 for the hertz; another is 1, and so is another length
+pub set-words : hertzIn 0 9 ∷ hertzIn 1 9 ∷ [] ≡ Unset ∷ Hz 9 ∷ []
+set-words = refl
+
+pub fitting : leafFits 0 2 2 ∷ leafFits 1 2 2 ∷ leafFits 2 2 2 ∷ leafFits 0 2 3 ∷ leafFits 0 2 1 ∷ [] ≡ true ∷ true ∷ false ∷ false ∷ false ∷ []
+fitting = refl
+
+-- divisor and clock in two words
+abbrev two : List ℕ
+two = 70 ∷ 71 ∷ []
+
+pub bus-words :
+    busRoom true (BusAnswer.Divided (record { pre = 4; clock = 9 })) two ∷ busRoom false (BusAnswer.Divided (record { pre = 4; clock = 9 })) two ∷ busRoom true (BusAnswer.Refused AhbZero) two ∷ []
+    ≡ (4 ∷ 9 ∷ []) ∷ two ∷ two ∷ []
+bus-words = refl
+
+pub bus-codes : busCode true (BusAnswer.Divided (record { pre = 4; clock = 9 })) ∷ busCode false (BusAnswer.Refused AhbZero) ∷ busCode true (BusAnswer.Refused AhbZero) ∷ [] ≡ 0 ∷ 1 ∷ 19 ∷ []
+bus-codes = refl
+
+-- prescaler, 0 or 1, hertz in three words
+pub mco-words :
+    mcoRoom true (McoAnswer.Prescaler (record { pre = 4; clock = Hz 9 })) three ∷ mcoRoom true (McoAnswer.Prescaler (record { pre = 0; clock = Unset })) three
+    ∷ mcoRoom false (McoAnswer.Prescaler (record { pre = 4; clock = Hz 9 })) three ∷ mcoRoom true (McoAnswer.Refused McoRatio) three ∷ []
+    ≡ (4 ∷ 1 ∷ 9 ∷ []) ∷ (0 ∷ 0 ∷ 0 ∷ []) ∷ three ∷ three ∷ []
+mco-words = refl
+
+pub mco-codes : mcoCode true (McoAnswer.Prescaler (record { pre = 4; clock = Hz 9 })) ∷ mcoCode false (McoAnswer.Refused McoRatio) ∷ mcoCode true (McoAnswer.Refused McoRatio) ∷ [] ≡ 0 ∷ 1 ∷ 23 ∷ []
+mco-codes = refl

@@ -1,0 +1,124 @@
+-- The claims of specs/Demands taken at their word, for every request, chip and answer: a premise more, or a part less, and one of these is
+-- refused. Nothing is shown here of the planner.
+use mathlib.Core.Path.{_≡_, refl}
+use mathlib.Core.Logic.{_⊎_, _↔_}
+use mathlib.Core.Bool.{Bool, true, false}
+use mathlib.Core.List.{List, [], _∷_, _++_, map}
+use Prim.Native.Nat.{ℕ, _*_, _≤_, _<_}
+use Rattle.types.specs.declared.Request.{Request}
+use Rattle.types.specs.declared.Chip.{Chip}
+use Rattle.types.specs.declared.ChipState.{ChipState}
+use Rattle.types.specs.declared.Scale.the-variants.{Scale0}
+use Rattle.types.specs.declared.Pll.the-variants.{Idle}
+use Rattle.types.specs.declared.Entry.{Entry}
+use Rattle.types.specs.declared.Shown.the-variants.{Next, Finished}
+use Rattle.types.specs.declared.Refusal.{Refusal}
+use Rattle.types.specs.declared.Plan.{Plan}
+use Rattle.types.specs.declared.Answer.the-variants.{Accepted, Refused}
+use Rattle.types.specs.declared.Planned.{Planned}
+use Rattle.rules.specs.Document01.Result.{ok}
+use Rattle.rules.specs.Document01.Refusals.{numberOf}
+use Rattle.rules.specs.Document01.Request.{sourceOf, askedOf}
+use Rattle.rules.specs.Document01.Plan.{blankPlan, Asked, requestOf}
+use Rattle.rules.specs.Document01.Entries.{entriesOf, pllIn}
+use Rattle.rules.specs.Document01.Bank.{applyAll, resetBank}
+use Rattle.rules.specs.Rust.Run.{Outcome, panics, ends}
+use Rattle.rules.specs.Rust.CoreClocks.{CoreClocks}
+use Rattle.rules.specs.Rust.Rcc.{frozen}
+use Rattle.rules.specs.Manual.Path.{Path, pllOn, num, den, floored, NoRemainder, Near, Readings}
+use Rattle.rules.specs.Manual.Tree.{Clock, along, pathOf}
+use Rattle.rules.specs.Manual.WaitStates.{rows, highest, waits, asks}
+use Rattle.rules.specs.Demands.Report.{reported}
+use Rattle.rules.specs.Document01.Walk.{Stand, steppedOf}
+use Rattle.rules.specs.Demands.Walks.{Pair, Satisfy, ShowsAll, shows}
+use Rattle.rules.specs.Demands.Agreement.{oddP, Cause, Departure, EndsAllowed, Agreement}
+use Rattle.rules.specs.Demands.Legal.{LegalPll, LegalPlan}
+use Rattle.rules.specs.Demands.Readings.{viaOf, started, Covered, TwoReadings, fedBy}
+use Rattle.rules.specs.Demands.Calls.{Answered, Kept, AsFreeze, IsLegal, ReadTwice, BankReadTwice}
+
+-- ---- the calls
+module _ (bytes : List ℕ) (chip : Chip) (x : Planned) (a : Asked) (e : requestOf bytes chip ≡ ok a) where
+  pub as-freeze : AsFreeze bytes chip x → Agreement (a .request) (a .chip) x (frozen (a .request) (a .chip))
+  as-freeze h = h a e
+
+  pub is-legal : IsLegal bytes chip x → x .answer ≡ Accepted → LegalPlan (a .request) (a .chip) (x .plan)
+  is-legal h = h a e
+
+  pub read-twice : ReadTwice bytes chip x → x .answer ≡ Accepted → TwoReadings (a .request) (x .plan) (applyAll (entriesOf x) resetBank)
+  read-twice h = h a e
+
+  pub bank-read-twice : (b b₁ : List ℕ) → BankReadTwice bytes chip x b b₁ → x .answer ≡ Accepted → b ≡ resetBank → TwoReadings (a .request) (x .plan) b₁
+  bank-read-twice b b₁ h = h a e
+
+module _ (x : Planned) (n : Refusal) (e : x .answer ≡ Refused n) where
+  pub listed : (Listed : Refusal → Type 0) → Answered Listed x → Listed n
+  listed Listed h = h .refusal n e
+
+  pub blank : (Listed : Refusal → Type 0) → Answered Listed x → x .plan ≡ blankPlan
+  blank Listed h = h .blank n e
+
+  pub kept : (b b₁ : List ℕ) → Kept x b b₁ → b₁ ≡ b
+  kept b b₁ h = h n e
+
+-- ---- demand 2
+module _ (q : Request) (c : ChipState) (x : Planned) where
+  pub plan-exactly : (o : Outcome CoreClocks) → Agreement q c x o → x .answer ≡ Accepted ↔ EndsAllowed c o
+  plan-exactly o h = h .exactly
+
+  pub plan-ends : (o : Outcome CoreClocks) → Agreement q c x o → x .answer ≡ Accepted → o ≡ ends (entriesOf x) (reported (x .plan))
+  plan-ends o h = h .planned
+
+  pub panic-refused : Agreement q c x panics → (n : Refusal) × (x .answer ≡ Refused n)
+  panic-refused h = h .panicked refl
+
+module _ (q : Request) (c : ChipState) (x : Planned) (n : Refusal) (e : x .answer ≡ Refused n) where
+  pub refused : (o : Outcome CoreClocks) → Agreement q c x o → (numberOf n ≡ 14 → ⊥) → (numberOf n ≡ 15 → ⊥) → o ≡ panics
+  refused o h = h .refused n e
+
+  pub caused : (o : Outcome CoreClocks) → Agreement q c x o → (numberOf n ≡ 14) ⊎ (numberOf n ≡ 15) → Cause q c n
+  caused o h = h .caused n e
+
+  pub departed : (es : List Entry) (k : CoreClocks) → Agreement q c x (ends es k) → Departure q c n es
+  departed es k h = h .departed n es k e refl
+
+-- whether a PLL may divide P by an odd number, by its number
+pub odd-by-number : (odd1 odd2 odd3 : Bool) → map (oddP (record { three = true; odd1 = odd1; odd2 = odd2; odd3 = odd3; scale = Scale0; hsion = true; hsidiv = 2 })) (0 ∷ 1 ∷ 2 ∷ []) ≡ odd1 ∷ odd2 ∷ odd3 ∷ []
+odd-by-number odd1 odd2 odd3 = refl
+
+module _ (q : Request) (c : ChipState) (p : Plan) (h : LegalPlan q c p) where
+  pub first-pll : LegalPll (c .odd1) (sourceOf q) (askedOf q 0) (pllIn p 0)
+  first-pll = h .pll1
+
+  pub second-pll : LegalPll (c .odd2) (sourceOf q) (askedOf q 1) (pllIn p 1)
+  second-pll = h .pll2
+
+  pub third-pll : c .three ≡ true → LegalPll (c .odd3) (sourceOf q) (askedOf q 2) (pllIn p 2)
+  third-pll e = rw e at (h .pll3)
+
+  pub no-third-pll : c .three ≡ false → pllIn p 2 ≡ Idle
+  no-third-pll e = rw e at (h .pll3)
+
+  pub wait-states : p .hclk ≤ highest (c .scale) * 1_000_000 → asks (rows (c .scale)) (p .hclk) ≡ waits (p .latency) (p .delay)
+  wait-states = h .flash
+
+-- ---- demand 3
+module _ (q : Request) (p : Plan) (b : List ℕ) (h : TwoReadings q p b) (k : Clock) where
+  pub read : (r : ℕ) → Covered q p (started p) k r → (path : Path) × (pathOf b (fedBy (q .hse)) k ≡ along path) × Readings path r
+  read r c = let t = h .reads k r c in (t .path, t .found, t .readings)
+
+  pub same-pll : (path : Path) → pathOf b (fedBy (q .hse)) k ≡ along path → viaOf q p k ≡ pllOn path
+  same-pll path e = h .via k path e
+
+module _ (p : Path) (r : ℕ) (h : Readings p r) where
+  pub reads-floor : r ≡ floored p
+  reads-floor = h .floor
+
+  pub reads-equal : (r * den p ≡ num p) ↔ NoRemainder p
+  reads-equal = h .equal
+
+  pub reads-lower : ¬ (NoRemainder p) → (r * den p < num p) × Near p r
+  reads-lower = h .lower
+
+-- ---- the walks
+pub shows-all : (s : Stand) (es : List Entry) → ShowsAll s es → (rs : List Pair) → Satisfy es rs → shows steppedOf s rs ≡ map Next es ++ (Finished ∷ [])
+shows-all s es h = h
