@@ -1,19 +1,15 @@
 -- The C functions of the calls as docs/CODES.md states them, in numbers: the chip's seven bytes, the lengths, what a refusal leaves.
 use mathlib.Core.Path.{_≡_, refl}
-use mathlib.Core.Bool.{Bool, true, false, cond, not}
-use mathlib.Core.List.{List, [], _∷_, map}
+use mathlib.Core.Bool.{true, false}
+use mathlib.Core.List.{List, [], _∷_}
 use Prim.Native.Nat.{ℕ}
-use lib.Dec.{eqb}
-use lib.ListN.{length, replicate}
-use Rattle.types.specs.declared.Strategy.the-variants.{Integer}
-use Rattle.types.specs.declared.Hertz.the-variants.{Unset, Hz}
+use lib.ListN.{replicate}
 use Rattle.types.specs.declared.Refusal.{Refusal}
-use Rattle.types.specs.declared.Answer.the-variants.{Accepted, Refused}
+use Rattle.types.specs.declared.Answer.the-variants.{Refused}
 use Rattle.types.specs.declared.Planned.{Planned}
 use Rattle.rules.specs.Document01.Refusals.{codeOf}
 use Rattle.rules.proofs.Computes.{byRules}
 use Rattle.clock_api.specs.Calls.{chipFrom, askedOf, bankAsked, reportBy, listBy}
-use Rattle.clock_api.specs.OnePll.{pllFor}
 
 -- PLL count, odd P of PLL1, PLL2, PLL3, scale, HSION, HSIDIV
 pub seven-bytes : chipFrom (11 ∷ 12 ∷ 13 ∷ 14 ∷ 15 ∷ 16 ∷ 17 ∷ []) ≡ record { plls = 11; odd1 = 12; odd2 = 13; odd3 = 14; scale = 15; hsion = 16; hsidiv = 17 }

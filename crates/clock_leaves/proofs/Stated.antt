@@ -1,6 +1,6 @@
 -- The C functions of the leaves as docs/CODES.md states them, in numbers.
 use mathlib.Core.Path.{_≡_, refl}
-use mathlib.Core.Bool.{Bool, true, false}
+use mathlib.Core.Bool.{true, false}
 use mathlib.Core.List.{List, [], _∷_, map}
 use Prim.Native.Nat.{ℕ}
 use Rattle.types.specs.declared.Fracn.the-variants.{Value, OutOfRange}

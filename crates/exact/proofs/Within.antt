@@ -36,7 +36,7 @@ use Rattle.rules.specs.Document01.Plan.{Plls, pllsOf, hsiReady, systemFrom, Bus
 use Rattle.rules.specs.Document01.Entries.{outputEntries, fractionEntries, baseEntries, settingEntries, setupEntries, pllIn, prftenOf, clockEntries, bit, hseEntries, sourceEntries, outputStart, startEntries, busEntries, planEntries, entriesOf}
 use Rattle.rules.specs.Document01.Bank.{applyAll, resetBank}
 use Rattle.rules.specs.Manual.Path.{PllName, pll1, pll2, pll3}
-use Rattle.rules.specs.Manual.Tree.{number, divider, enable, word}
+use Rattle.rules.specs.Manual.Tree.{number, word}
 use Rattle.rules.specs.Demands.Legal.{LegalOutput, LegalVco, LegalPll, LegalThird, LegalPlan}
 use Rattle.rules.proofs.Document01.Results.{Holds, holds-then, holds-next, holds-tested, holds-known}
 use Rattle.rules.proofs.Legal.Plan.{plan-legal}

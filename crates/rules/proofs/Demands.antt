@@ -1,6 +1,6 @@
 -- The customer's three demands, for every list of bytes and all numbers of a chip: what the rest of proofs/ shows, gathered on one page.
 -- `planOf` and `bankPlanOf` are specs/Document01/Plan, and the claims are those of specs/Demands/Calls.
-use mathlib.Core.Path.{_≡_, refl, _∙_, sym}
+use mathlib.Core.Path.{_≡_, refl, _∙_}
 use mathlib.Core.Bool.{Bool, true, false}
 use mathlib.Core.List.{List, []}
 use Prim.Native.Nat.{ℕ}

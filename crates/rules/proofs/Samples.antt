@@ -5,7 +5,7 @@ use Prim.Native.Nat.{ℕ}
 use Rattle.types.specs.declared.Hertz.{Hertz}
 use Rattle.types.specs.declared.Hertz.the-variants.{Unset, Hz}
 use Rattle.types.specs.declared.Strategy.{Strategy}
-use Rattle.types.specs.declared.Strategy.the-variants.{Integer, Fractional}
+use Rattle.types.specs.declared.Strategy.the-variants.{Integer}
 use Rattle.types.specs.declared.Mco1Source.{Mco1Source}
 use Rattle.types.specs.declared.Mco2Source.{Mco2Source}
 use Rattle.types.specs.declared.PllRequest.{PllRequest}

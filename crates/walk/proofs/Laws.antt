@@ -17,7 +17,7 @@ use Rattle.types.specs.declared.Shown.{Shown}
 use Rattle.types.specs.declared.Shown.the-variants.{Next, Finished}
 use Rattle.rules.specs.Document01.Result.{ok}
 use Rattle.rules.specs.Document01.Plan.{Asked, requestOf, planOf}
-use Rattle.rules.specs.Document01.Entries.{entriesOf, answerEntries, planEntries}
+use Rattle.rules.specs.Document01.Entries.{entriesOf, answerEntries}
 use Rattle.rules.specs.Document01.Walk.{Stand, before, ended, shownOf, passes, isCheck, steppedOf, freshBy, freshOf}
 use Rattle.rules.specs.Rust.Run.{ends}
 use Rattle.rules.specs.Rust.CoreClocks.{CoreClocks}

@@ -6,7 +6,7 @@ use Prim.Native.Nat.{ℕ, _/_, _%_, _≤_}
 use native.Mathlib.Omega.{arith}
 use lib.Dec.{leb, ltb, eqb}
 use lib.ListN.{getD}
-use borrow.Author.Tests.{leb-true, le-leb, eqb-true, eqb-false, not-true}
+use borrow.Author.Tests.{leb-true, le-leb, eqb-false, not-true}
 use Rattle.types.specs.declared.Hertz.{Hertz}
 use Rattle.types.specs.declared.Hertz.the-variants.{Unset, Hz}
 use Rattle.types.specs.declared.Strategy.{Strategy}
@@ -24,19 +24,18 @@ use Rattle.types.specs.declared.FoundM.the-variants.{Nothing, M}
 use Rattle.types.specs.declared.Refusal.{Refusal}
 use Rattle.types.specs.declared.Refusal.the-variants.{OutsideCodes, BankLength, AboveLimit, McoHseUnstated, Pll1PUnlikeSystem, SourceZero, OutputZero, OutputsTooFarApart, OutputTooHigh, TargetOutside, NoM, NOutside, FracnOutside, PDividerAbove128, PDividerOdd, HsiOff, HsidivNot2, BusZero, AhbZero, Mco1Lse, McoNoOutput, McoZero, McoRatio, CsiDown}
 use Rattle.types.specs.declared.Plan.{Plan}
-use Rattle.types.specs.declared.Answer.the-variants.{Accepted, Refused}
-use Rattle.types.specs.declared.Planned.{Planned}
+use Rattle.types.specs.declared.Answer.the-variants.{Refused}
 use Rattle.ieee754.specs.Steps.{float, fracnOf}
 use Rattle.rules.specs.Demands.Calls.{Numbered}
 use Rattle.rules.specs.Document01.Result.{Result, refused, ok, _>>=_, _>>_, require}
 use Rattle.rules.specs.Document01.Refusals.{numberOf}
-use Rattle.rules.specs.Document01.Hertz.{isSet, notZero, hertzOr, ratioOf}
-use Rattle.rules.specs.Document01.Request.{pllAt, within, limited, fromHse1, fromHse2, stated, pll1Asked, pll2Asked, sourceOf, systemOf, needsPll1, like, withP, forSystemClock, sourced}
+use Rattle.rules.specs.Document01.Hertz.{isSet, notZero, ratioOf}
+use Rattle.rules.specs.Document01.Request.{pllAt, within, limited, fromHse1, fromHse2, stated, pll1Asked, pll2Asked, sourceOf, systemOf, needsPll1, like, forSystemClock, sourced}
 use Rattle.rules.specs.Document01.ChoiceOfM.{chosenM}
 use Rattle.rules.specs.Document01.OnePll.{wanted, noneZero, countedOutputs, least, largest, Range, admissible, firstOf, taken, fractionOf, dividerP, allowedP, spanned, rangeFor, targetFor, dividedBy, settingsOf, settled, runs, running, pllOf, pClock, qClock}
 use Rattle.rules.specs.Document01.Buses.{hpreFor, ppreFor, ahbOf, apbOf}
 use Rattle.rules.specs.Document01.Mco.{Mco, planned, mco1Input, mco2Input, mcoOf}
-use Rattle.rules.specs.Document01.Plan.{Plls, thirdOf, pllsOf, hsiReady, systemFrom, busesOf, mcosOf, planWith, chosenPlan, answered, answerTo}
+use Rattle.rules.specs.Document01.Plan.{Plls, thirdOf, pllsOf, hsiReady, systemFrom, busesOf, mcosOf, chosenPlan, answered, answerTo}
 use Rattle.laws.proofs.Tests.{by-test, and-left, and-right}
 use Rattle.rules.proofs.Document01.Results.{Only, only-weaker, only-require, only-then, only-next, only-tested}
 use Rattle.rules.proofs.Document01.Multiplier.{range-kind, n-tested, n-known}

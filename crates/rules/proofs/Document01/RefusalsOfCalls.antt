@@ -2,7 +2,7 @@
 use mathlib.Core.Path.{_≡_, refl, subst}
 use mathlib.Core.Bool.{Bool, true, false, _&&_, _||_}
 use mathlib.Core.List.{List, [], _∷_}
-use mathlib.Core.Logic.{_⊎_, inl, inr}
+use mathlib.Core.Logic.{inl, inr}
 use Prim.Native.Nat.{ℕ, zero, suc}
 use native.Mathlib.Omega.{arith}
 use lib.Dec.{eqb, ltb}
@@ -13,11 +13,10 @@ use Rattle.types.specs.declared.Refusal.the-variants.{OutsideCodes, BankLength}
 use Rattle.types.specs.declared.Plan.{Plan}
 use Rattle.types.specs.declared.Answer.the-variants.{Refused}
 use Rattle.rules.specs.Document01.Result.{Result, refused, ok, _>>=_, _>>_, require}
-use Rattle.rules.specs.Document01.Refusals.{numberOf}
 use Rattle.rules.specs.Document01.Chip.{isBit, isHsidiv, chipOf}
 use Rattle.rules.specs.Document01.Bytes.{Read, Reader, fits, byte, end, code, word, setTo, hertz, flag, mco1Source, mco2Source, strategy, pllPart, thirdPart, requestPart}
 use Rattle.rules.specs.Document01.Plan.{chosenPlan, answered, requestOf, planOf, bankPlanOf}
-use Rattle.rules.specs.Demands.Calls.{Numbered, ByPlan, ByBank}
+use Rattle.rules.specs.Demands.Calls.{ByPlan, ByBank}
 use Rattle.rules.proofs.Document01.Results.{Only, only-require, only-then, only-next}
 use Rattle.rules.proofs.Document01.Refusals.{Typed, chosen-plan-only, numbered}
 

@@ -15,7 +15,7 @@ use Rattle.types.specs.declared.Refusal.the-variants.{OutsideCodes}
 use Rattle.types.specs.declared.Shown.{Shown}
 use Rattle.types.specs.declared.Shown.the-variants.{Next, Finished, Stopped}
 use Rattle.rules.specs.Document01.Fields
-use Rattle.rules.specs.Document01.Walk.{Stand, before, ended, shownOf, passes, vosCode, voltageFresh, voltageTo, transition, afterRead, voltageStepped}
+use Rattle.rules.specs.Document01.Walk.{Stand, before, ended, shownOf, vosCode, voltageFresh, voltageTo, transition, afterRead, voltageStepped}
 use Rattle.rules.specs.Demands.Walks.{Pair, after, shows, Satisfy, VoltageReads}
 use Rattle.rules.proofs.Document01.Walk.{both, any-left, any-again}
 

@@ -27,7 +27,7 @@ use Rattle.rules.specs.Document01.Target.{targetOf}
 use Rattle.rules.proofs.Document01.ChoiceOfM.{chosen-some}
 use Rattle.rules.proofs.Document01.Target.{divider-le, divider-pos}
 use Rattle.ieee754.specs.Steps.{float, fracnFloat, fracnOf}
-use Rattle.ieee754.specs.Whole.{fracnWhole, vcoWhole}
+use Rattle.ieee754.specs.Whole.{fracnWhole}
 use Rattle.ieee754.proofs.Same.{fracn-same, vco-same}
 use Rattle.ieee754.proofs.Near.{fracn-below}
 use Rattle.laws.proofs.Numbers.{le-div, div-le, below, above}

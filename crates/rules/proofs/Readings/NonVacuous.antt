@@ -1,28 +1,22 @@
 -- Demand 3 says something: a plan that covers every clock, a report that is lower, and lists and banks that break the claim.
 use mathlib.Core.Path.{_≡_, refl, sym, _∙_, ap}
-use mathlib.Core.Bool.{Bool, true, false, cond}
+use mathlib.Core.Bool.{true, false, cond}
 use mathlib.Core.List.{List, [], _∷_}
-use Prim.Native.Nat.{ℕ, _+_, _*_, _/_, _%_, _<_}
+use Prim.Native.Nat.{ℕ, _*_, _/_, _%_, _<_}
 use native.Mathlib.Omega.{arith}
 use lib.Dec.{eqb}
-use Rattle.types.specs.declared.Hertz.{Hertz}
 use Rattle.types.specs.declared.Hertz.the-variants.{Unset, Hz}
 use Rattle.types.specs.declared.Strategy.the-variants.{Integer, Fractional}
-use Rattle.types.specs.declared.Mco1Source.{Mco1Source}
-use Rattle.types.specs.declared.Mco2Source.{Mco2Source}
-use Rattle.types.specs.declared.PllRequest.{PllRequest}
 use Rattle.types.specs.declared.Request.{Request}
-use Rattle.types.specs.declared.Scale.the-variants.{Scale0}
-use Rattle.types.specs.declared.ChipState.{ChipState}
 use Rattle.types.specs.declared.Planned.{Planned}
 use Rattle.types.specs.declared.Entry.{Entry}
 use Rattle.types.specs.declared.Entry.the-variants.{Set, Set2, Set3, Set4, Wait, Wait2, Check, Read}
 use Rattle.rules.specs.Document01.Plan.{answerTo}
 use Rattle.rules.specs.Document01.Entries.{entriesOf}
 use Rattle.rules.specs.Document01.Bank.{applyAll, resetBank}
-use Rattle.rules.specs.Manual.Path.{PllName, pll1, pll2, pll3, by, whole, part, Path, direct, through, num, den, floored, NoRemainder, Near}
+use Rattle.rules.specs.Manual.Path.{pll1, pll2, pll3, by, whole, Path, direct, through, num, den, floored, NoRemainder, Near}
 use Rattle.rules.specs.Manual.Tree
-use Rattle.rules.specs.Manual.Tree.{Chain, none, along, P, Q, R, Clock, sys, hclk, pclk1, pclk2, pclk3, timx, timy, per, hsi, csi, hsi48, lsi, hse, mco1, mco2, output, pathOf}
+use Rattle.rules.specs.Manual.Tree.{none, along, P, Q, R, Clock, sys, hclk, pclk1, pclk2, pclk3, timx, timy, per, hsi, csi, hsi48, lsi, hse, mco1, mco2, output, pathOf}
 use Rattle.rules.specs.Demands.Report.{reported, hertzOf}
 use Rattle.rules.specs.Demands.Readings.{started, steady, Covered, TreeReads, TwoReadings, fedBy}
 use Rattle.rules.proofs.Computes.{byRules, byTree}

@@ -1,17 +1,12 @@
 -- The report's 55 words in the order of docs/CODES.md: 26 clocks, each as (0 or 1, hertz), then PPRE1 to PPRE3. Tied clock by clock to what a
 -- plan reports, and once in numbers.
 use mathlib.Core.Path.{_≡_, refl}
-use mathlib.Core.Bool.{true, false}
+use mathlib.Core.Bool.{true}
 use mathlib.Core.List.{List, [], _∷_, _++_, append-assoc}
 use Prim.Native.Nat.{ℕ}
 use lib.ListN.{length, replicate}
 use Rattle.types.specs.declared.Hertz.{Hertz}
 use Rattle.types.specs.declared.Hertz.the-variants.{Unset, Hz}
-use Rattle.types.specs.declared.Strategy.the-variants.{Integer}
-use Rattle.types.specs.declared.Mco1Source.{Mco1Source}
-use Rattle.types.specs.declared.Mco2Source.{Mco2Source}
-use Rattle.types.specs.declared.Request.{Request}
-use Rattle.types.specs.declared.Scale.the-variants.{Scale0}
 use Rattle.types.specs.declared.Plan.{Plan}
 use Rattle.rules.specs.Document01.Plan.{answerTo, blankPlan}
 use Rattle.rules.specs.Document01.Entries.{bit}

@@ -1,7 +1,6 @@
 -- Demand 2 rules these out: settings and wait states that the manuals or IEEE 754 do not allow, wrong in one place each where that can be.
 use mathlib.Core.Path.{_≡_, sym, ap}
-use mathlib.Core.Bool.{Bool, true, false}
-use mathlib.Core.List.{[], _∷_}
+use mathlib.Core.Bool.{true, false}
 use Prim.Native.Nat.{ℕ, _+_, _*_, _≤_, _<_}
 use native.Mathlib.Omega.{arith}
 use Rattle.types.specs.declared.Hertz.the-variants.{Unset, Hz}
@@ -13,9 +12,6 @@ use Rattle.types.specs.declared.PllOutput.the-variants.{Off, On}
 use Rattle.types.specs.declared.Fraction.the-variants.{Whole, Part}
 use Rattle.types.specs.declared.PllRequest.{PllRequest}
 use Rattle.types.specs.declared.PllSettings.{PllSettings}
-use Rattle.types.specs.declared.Mco1Source.{Mco1Source}
-use Rattle.types.specs.declared.Mco2Source.{Mco2Source}
-use Rattle.types.specs.declared.Request.{Request}
 use Rattle.types.specs.declared.Pll.{Pll}
 use Rattle.types.specs.declared.Pll.the-variants.{Idle, Runs}
 use Rattle.types.specs.declared.Scale.{Scale}

@@ -1,21 +1,18 @@
 -- Answers that are wrong in one place: what proofs/Unweakened shows the claims of specs/Demands to be false of.
 use mathlib.Core.Path.{_≡_, refl}
-use mathlib.Core.Bool.{false}
 use mathlib.Core.List.{[], _∷_}
 use Prim.Native.Nat.{ℕ}
-use Rattle.types.specs.declared.Hertz.the-variants.{Unset}
 use Rattle.types.specs.declared.PllOutput.{PllOutput}
 use Rattle.types.specs.declared.PllOutput.the-variants.{Off, On}
 use Rattle.types.specs.declared.Fraction.the-variants.{Whole}
 use Rattle.types.specs.declared.PllSettings.{PllSettings}
 use Rattle.types.specs.declared.Pll.{Pll}
 use Rattle.types.specs.declared.Pll.the-variants.{Idle, Runs}
-use Rattle.types.specs.declared.Request.{Request}
 use Rattle.types.specs.declared.Refusal.{Refusal}
 use Rattle.types.specs.declared.Plan.{Plan}
 use Rattle.types.specs.declared.Answer.the-variants.{Accepted, Refused}
 use Rattle.types.specs.declared.Planned.{Planned}
-use Rattle.rules.specs.Document01.Plan.{blankPlan, answerTo}
+use Rattle.rules.specs.Document01.Plan.{blankPlan}
 use Rattle.rules.specs.Document01.Entries.{pllIn}
 use Rattle.rules.proofs.Computes.{byRules}
 use Rattle.rules.proofs.Samples.{planA}
