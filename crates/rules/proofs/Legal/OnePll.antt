@@ -219,11 +219,11 @@ module _ (odd : Bool) (source : ℕ) (a : PllRequest) (g : Range) (target m : �
   ref-most : ref ≤ 16_000_000
   ref-most = div-le m (subst (λ (x : ℕ). source ≤ x) (mul-comm 16_000_000 m) (ends .1))
 
-  part-high : (f : ℕ) → 4 ≤ n → n ≤ 512 → target / firstOf a ≤ 128 → fracnWhole ref n (target / firstOf a) (firstOf a) ≡ Value f → source * (8192 * n + f) < (8192 * (g .end + 166) + (8192 * n + f)) * m
+  part-high : (f : ℕ) → 4 ≤ n → n ≤ 512 → target / firstOf a ≤ 128 → fracnWhole ref n (target / firstOf a) (firstOf a) ≡ Value f → source * (8192 * n + f) < (8192 * (g .end + 98) + (8192 * n + f)) * m
   part-high f four most few v =
       let od : firstOf a * (target / firstOf a) ≤ g .end = le-trans (mul-div-le target (firstOf a)) en in
-      let l : ref * (8192 * n + f) ≤ 8192 * (g .end + 166) = fracn-below ref n (target / firstOf a) (firstOf a) (g .end) (sixty-fours .0) f ref-some ref-most most few od small (sixty-fours .1) v in
-      go (8192 * n + f) (8192 * (g .end + 166)) l (omega arith)
+      let l : ref * (8192 * n + f) ≤ 8192 * (g .end + 98) = fracn-below ref n (target / firstOf a) (firstOf a) (g .end) (sixty-fours .0) f ref-some ref-most most few od small (sixty-fours .1) v in
+      go (8192 * n + f) (8192 * (g .end + 98)) l (omega arith)
     where
       sixty-fours : (k : ℕ) × (g .end + 64 ≡ k * 64)
       sixty-fours = ⊎-elim (λ (e : g ≡ medium). (6_562_501, ap (λ (x : Range). x .end + 64) e)) (λ (e : g ≡ wide). (8_750_001, ap (λ (x : Range). x .end + 64) e)) kind

@@ -2,17 +2,18 @@
 use mathlib.Core.Path.{_≡_, refl}
 use mathlib.Core.Bool.{Bool, true, false, not, _&&_, _||_}
 use mathlib.Core.List.{List, append-nil}
+use mathlib.Core.Option.{Option, none, some}
 use Prim.Native.Nat.{ℕ}
 use lib.Dec.{ltb, eqb}
 use Rattle.types.specs.declared.Chip.{Chip}
 use Rattle.types.specs.declared.Refusal.the-variants.{OutsideCodes, BankLength}
-use Rattle.rules.specs.Document01.Result.{_>>_, require}
+use Rattle.rules.specs.Document01.Result.{ok, _>>_, require}
 use Rattle.rules.specs.Document01.Chip.{chipOf}
 use Rattle.rules.specs.Document01.Plan.{Asked, chosenPlan, requestOf, planOf, bankPlanOf}
-use Rattle.rules.specs.Demands.Rows.{AsRows}
+use Rattle.rules.specs.Demands.Rows.{firstThat, AsRows}
 use Rattle.rules.specs.Demands.ByPlaces.{stateOf, requestAt}
 use Rattle.rules.specs.Demands.Refused.{chipRows, byteRows, codeRows, planRows, bankRows}
-use Rattle.rules.proofs.Refused.Says.{Says, says-then, says-ok, says-tested}
+use Rattle.rules.proofs.Refused.Says.{value, saidBy, Says, says-then, says-ok, says-tested}
 use Rattle.rules.proofs.Refused.OnePll.{lt-turned, twice}
 use Rattle.rules.proofs.Refused.Typed.{says-plan, as-rows}
 use Rattle.rules.proofs.Refused.Bytes.{says-request}
@@ -50,6 +51,14 @@ unfolding requestOf
 says-asked bytes chip =
     rw (← append-nil (byteRows (stateOf chip .three) bytes))
     (says-then _ (says-chip chip) (says-then _ (says-request (stateOf chip .three) bytes) (says-ok (askedFor bytes chip))))
+
+-- bytes that are a request say what stands in their places
+pub by-places : (bytes : List ℕ) (chip : Chip) (a : Asked) → requestOf bytes chip ≡ ok a → a ≡ record { request = requestAt (stateOf chip .three) bytes; chip = stateOf chip }
+by-places bytes chip a e = go (firstThat (codeRows bytes chip)) (rw e at (says-asked bytes chip .same))
+  where
+    go : (o : Option ℕ) → value a ≡ saidBy o (askedFor bytes chip) → a ≡ askedFor bytes chip
+    go none e = cc
+    go (some n) e = cc
 
 -- ---- the calls
 pub plan-rows : (bytes : List ℕ) (chip : Chip) → AsRows (planRows bytes chip) (planOf bytes chip .answer)

@@ -9,12 +9,13 @@ use Rattle.types.specs.declared.Hertz.the-variants.{Unset, Hz}
 use Rattle.types.specs.declared.Strategy.the-variants.{Integer, Fractional}
 use Rattle.types.specs.declared.Mco1Source.{Mco1Source}
 use Rattle.types.specs.declared.Mco2Source.{Mco2Source}
+use Rattle.types.specs.declared.PllRequest.{PllRequest}
 use Rattle.types.specs.declared.Request.{Request}
 use Rattle.rules.specs.Demands.Rows.{Row}
 use Rattle.rules.specs.Demands.Quantities.{anyTo}
 use Rattle.rules.specs.Demands.Refused.{pllRows, rowsOf}
 use Rattle.rules.proofs.Computes.{byRules}
-use Rattle.rules.proofs.Samples.{pll, none, asking, clocks, onHsi, onHse, mco1From, state}
+use Rattle.rules.proofs.Samples.{pll, none, asking, clocks, onHsi, onHse, mco1From, plls3, state, state3}
 
 -- the numbers of all rows that hold
 abbrev fitting : List Row → List ℕ
@@ -49,3 +50,19 @@ pub on-the-outputs :
     ≡ (19 ∷ 18 ∷ []) ∷ (20 ∷ 22 ∷ []) ∷ (23 ∷ 21 ∷ []) ∷ []
 unfolding byRules rowsOf pllRows anyTo
 on-the-outputs = refl
+
+-- PLL by PLL: 15 of PLL1 and 7 of PLL2; 15 of PLL2 and 7 of PLL3; 14 of PLL1 and 7 of PLL3
+abbrev odd-p : PllRequest
+odd-p = pll Integer (Hz 80_000_000) (Hz 200_000_000)
+
+abbrev zero-p : PllRequest
+zero-p = pll Integer (Hz 0) Unset
+
+abbrev three : (pll1 pll2 pll3 : PllRequest) → List ℕ
+three pll1 pll2 pll3 = take 2 (fitting (rowsOf (plls3 Unset Unset pll1 pll2 pll3) (state3 false false false)))
+
+pub between-plls :
+    three odd-p zero-p none ∷ three none odd-p zero-p ∷ three (pll Integer (Hz 1_000_000) Unset) none zero-p ∷ []
+    ≡ (15 ∷ 7 ∷ []) ∷ (15 ∷ 7 ∷ []) ∷ (14 ∷ 7 ∷ []) ∷ []
+unfolding byRules rowsOf pllRows anyTo
+between-plls = refl

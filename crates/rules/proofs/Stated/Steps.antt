@@ -11,6 +11,7 @@ use Rattle.rules.specs.Document01.Bytes.{mco1Sources, mco2Sources}
 use Rattle.rules.specs.Document01.Mco.{mco1Code, mco2Code}
 use Rattle.rules.specs.Document01.Hertz.{ratioOf}
 use Rattle.rules.specs.Document01.Buses.{Selected, peripheralOf, hpreOf, ppreOf, timerOf}
+use Rattle.rules.specs.Document01.Walk.{vosCode}
 use Rattle.rules.specs.Document01.Flash.{Waits, atColumn, flashOf}
 use Rattle.rules.proofs.Stated.Bank.{counted}
 
@@ -81,3 +82,7 @@ pub at-scale3 : map (around Scale3) (20 ∷ 40 ∷ 60 ∷ 80 ∷ 100 ∷ 101 ∷
     ≡ (0 ∷ 10 ∷ []) ∷ (10 ∷ 21 ∷ []) ∷ (21 ∷ 31 ∷ []) ∷ (31 ∷ 42 ∷ []) ∷ (42 ∷ 42 ∷ []) ∷ (42 ∷ 73 ∷ []) ∷ []
 unfolding flashOf atColumn
 at-scale3 = refl
+
+-- ---- VOS and ACTVOS: 3 less the scale
+pub vos-codes : map vosCode (0 ∷ 1 ∷ 2 ∷ 3 ∷ []) ≡ 3 ∷ 2 ∷ 1 ∷ 0 ∷ []
+vos-codes = refl

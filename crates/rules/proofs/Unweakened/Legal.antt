@@ -180,7 +180,7 @@ pub exact-low : Legal true 32_000_000 (pll Fractional (Hz 4_000_000) Unset) (mul
 exact-low h = let z : 8192 * (150_000_000 * 16) < 32_000_000 * (8192 * 4 + 0) + 8192 * 32_000_000 = h .vco .exact-from in omega arith
 
 pub exact-high : Legal true 32_000_000 (pll Fractional (Hz 512_000_000) Unset) (multiplied 512 1_024_000_000 512_000_000) → ⊥
-exact-high h = let z : 32_000_000 * (8192 * 512 + 0) < (8192 * (420_000_000 + 166) + (8192 * 512 + 0)) * 16 = h .vco .exact-to in omega arith
+exact-high h = let z : 32_000_000 * (8192 * 512 + 0) < (8192 * (420_000_000 + 98) + (8192 * 512 + 0)) * 16 = h .vco .exact-to in omega arith
 
 -- the strategy that is not requested: FRACN for Integer, none for Fractional
 pub part-for-integer : Legal true 32_000_000 (pll Integer (Hz 12_288_000) Unset) (fractional 66 417_791_904 12_287_997) → ⊥

@@ -65,13 +65,13 @@ firstDivider s = dividerOr (s .p) (dividerOr (s .q) (dividerOr (s .r) 0))
 
 -- Fractional: FRACN, for the first requested output and its divider, and VCO are those of the IEEE 754 steps. The manual's VCO,
 -- source / M × (N + FRACN / 8192), by cross products: above the lower end of VCOSEL's span less one step of source / M, and less than
--- N + FRACN / 8192 and 166 hertz above the upper end. The reference is cut to whole hertz, and the f32 steps round
+-- N + FRACN / 8192 and 98 hertz above the upper end. The reference is cut to whole hertz, and the f32 steps round
 pub record FractionalVco (source first : ℕ) (s : PllSettings) (f : ℕ) : Type 0 where
   pub field : FieldFracn f
   pub fracn : fracnWhole (s .reference) (s .n) (firstDivider s) first ≡ Value f
   pub vco : s .vco ≡ vcoWhole (s .reference) (s .n) f
   pub exact-from : 8192 * (vcoSpan (s .vcosel) .low * s .m) < source * (8192 * s .n + f) + 8192 * source
-  pub exact-to : source * (8192 * s .n + f) < (8192 * (vcoSpan (s .vcosel) .high + 166) + (8192 * s .n + f)) * s .m
+  pub exact-to : source * (8192 * s .n + f) < (8192 * (vcoSpan (s .vcosel) .high + 98) + (8192 * s .n + f)) * s .m
 
 -- by the strategy that is requested
 abbrev pub LegalVco : Strategy → (source first : ℕ) → PllSettings → Fraction → Type 0
