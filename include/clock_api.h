@@ -54,7 +54,7 @@ uint32_t clock_bank(const uint8_t *request, size_t request_length, const uint8_t
 
 /* Walks over the list of a request. Each step takes two words of `reads`: the values read for the first and the second field of the entry
  * shown. What is shown before the first step and after each is stored in `shown`, nine words each: an entry; nine 0 for finished; 5 and the
- * refusal's number for a refusal. A refused request shows its refusal from the start.
+ * refusal's number for a refusal. A refused request shows its refusal from the start, stored like anything shown.
  * Returns how many are stored: the lesser of reads_length / 2 + 1 and shown_length / 9. The words after them stay as they were. */
 size_t clock_walk(const uint8_t *request, size_t request_length, const uint8_t *chip, size_t chip_length, const uint32_t *reads,
                   size_t reads_length, uint32_t *shown, size_t shown_length);
@@ -72,7 +72,7 @@ uint32_t clock_reset_reason(uint32_t plls, uint32_t word, uint32_t *out, size_t 
 
 /* Chooses the settings of one PLL for a source in hertz. `part` is the PLL's 16 bytes of a request: the strategy, 0 or 1, then P, Q and R as a
  * byte 0 or 1 and the hertz in 4 bytes, low byte first. `odd` is 1 where P may divide by an odd number, else 0. Stored in `out`, of 18 words:
- * VCOSEL, target, M, reference, RGE, N, FRACEN, FRACN, VCO, then for P, Q and R 0 or 1, the divider and the hertz. A PLL with nothing
+ * VCOSEL, target, M, reference, RGE (its code, 0 to 3), N, FRACEN, FRACN, VCO, then for P, Q and R 0 or 1, the divider and the hertz. A PLL with nothing
  * requested has eighteen 0.
  * Returns 0, or the refusal's number: 6 to 15, and 1 for an `odd`, `part` or `out` of another kind or length. A refused call leaves `out` as
  * it was. */
@@ -87,15 +87,16 @@ uint32_t clock_vco(uint32_t reference, uint32_t n, uint32_t fracn);
 /* Returns latency + 8 x delay for AHB in hertz and a voltage scale; 255 for 0 Hz or a scale above 3. */
 uint32_t clock_flash(uint32_t ahb, uint32_t scale);
 
-/* The AHB divisor and clock for a system clock, in hertz. The requested clock is `set` 0 for unset, or 1 and the hertz. Stored in `out`, of two
- * words: the divisor and the clock.
+/* The AHB divisor and clock for a system clock, in hertz. The requested clock is `set` 0 for unset, and then `hertz` is not looked at, or
+ * `set` 1 and the hertz. Stored in `out`, of two words: the divisor and the clock.
  * Returns 0, or the refusal's number: 18 or 19, and 1 for another `set` or an `out` of another length. A refused call leaves `out` as it was. */
 uint32_t clock_ahb(uint32_t system, uint32_t set, uint32_t hertz, uint32_t *out, size_t out_length);
 
 /* An APB divisor and clock for an AHB clock, likewise; the refusal is 18. */
 uint32_t clock_apb(uint32_t hclk, uint32_t set, uint32_t hertz, uint32_t *out, size_t out_length);
 
-/* Returns the timer clock in hertz for an AHB clock and an APB divisor. */
+/* Returns the timer clock in hertz for an AHB clock and an APB divisor: AHB / 2, / 4, / 8 under 4, 8, 16, and AHB under any other number, 1 and
+ * 2 as well as those that no register has. */
 uint32_t clock_timer(uint32_t hclk, uint32_t ppre);
 
 /* A clock output's prescaler and clock for the clock of its source. Stored in `out`, of three words: the prescaler, 0 or 1, the hertz.

@@ -27,10 +27,10 @@ fn main() {
     let mut table = String::from("extern crate standin;\n");
     let mut rows = String::new();
     let mut quiet = String::new();
-    let why = match sources() {
-        Err(why) => {
+    let (there, why) = match sources() {
+        Err((there, why)) => {
             println!("cargo:warning=nothing to compare with: {why}");
-            why
+            (there, why)
         }
         Ok(source) => {
             for file in SOURCES {
@@ -46,28 +46,33 @@ fn main() {
                 writeln!(table, "extern crate {name};").unwrap();
                 writeln!(quiet, "Quiet {{ plls: {plls}, time_freeze: {name}::time_freeze }},").unwrap();
             }
-            format!("compiled unchanged from {}", source.display())
+            (true, format!("compiled unchanged from {}", source.display()))
         }
     };
     writeln!(table, "/// The variants; none without the sources.\npub static VARIANTS: &[Variant] = &[\n{rows}];").unwrap();
     writeln!(table, "/// Over the stand-in that keeps no record.\npub static QUIET: &[Quiet] = &[\n{quiet}];").unwrap();
     writeln!(table, "/// Where the sources are, or why there is no variant.\npub const SOURCES: &str = {why:?};").unwrap();
+    writeln!(
+        table,
+        "/// Whether there are sources to compare with: then a run without variants has failed.\npub const THERE: bool = {there};"
+    )
+    .unwrap();
     write(&out.join("variants.rs"), &table);
 }
 
-/// The folder with rcc.rs: where HAL_SRC says, or beside the project.
-fn sources() -> Result<PathBuf, String> {
-    let given = env::var("HAL_SRC").unwrap_or_else(|_| {
-        let beside = Path::new(&variable("CARGO_MANIFEST_DIR")).join("../../../shared/docs/src");
-        beside.to_string_lossy().into_owned()
-    });
-    let folder = Path::new(&given);
+/// The folder with rcc.rs: where HAL_SRC says, or beside the project. An error says whether there are sources, or someone says so, and why
+/// they are not compiled.
+fn sources() -> Result<PathBuf, (bool, String)> {
+    let said = env::var("HAL_SRC").ok();
+    let beside = Path::new(&variable("CARGO_MANIFEST_DIR")).join("../../../shared/docs/src");
+    let folder = said.as_ref().map_or(beside, PathBuf::from);
     let found = [folder.to_path_buf(), folder.join("src")];
     let source = found.iter().find(|at| SOURCES.iter().all(|file| at.join(file).is_file()));
-    let source = source.ok_or(format!("no HAL sources at {given} (HAL_SRC says where)"))?;
+    let none = (said.is_some(), format!("no HAL sources at {} (HAL_SRC says where)", folder.display()));
+    let source = source.ok_or(none)?;
     match minor_version() {
-        Some(minor) if minor < 73 => Err("the HAL sources need rustc 1.73 (u32::div_ceil)".into()),
-        _ => source.canonicalize().map_err(|error| error.to_string()),
+        Some(minor) if minor >= 73 => source.canonicalize().map_err(|error| (true, error.to_string())),
+        _ => Err((true, "the HAL sources need rustc 1.73 (u32::div_ceil)".into())),
     }
 }
 

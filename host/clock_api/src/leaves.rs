@@ -12,7 +12,7 @@ pub struct Pll {
     pub m: u32,
     /// The reference, the source over M, in hertz.
     pub reference: u32,
-    /// RGE: the reference's range, 1, 2, 4 or 8.
+    /// RGE, as the bank has it: 0, 1, 2, 3 for a reference of 1 to 2, 2 to 4, 4 to 8, 8 to 16 MHz.
     pub rge: u32,
     /// N.
     pub n: u32,
@@ -68,7 +68,7 @@ pub fn apb(hclk: u32, hertz: Option<u32>) -> Result<Bus, Refusal> {
     Ok(Bus { divisor: out[0], hertz: out[1] })
 }
 
-/// The timer clock for an AHB clock and an APB divisor, in hertz.
+/// The timer clock for an AHB clock and an APB divisor, in hertz: AHB / 2, / 4, / 8 under 4, 8, 16, and AHB under any other number.
 pub fn timer(hclk: u32, ppre: u32) -> u32 {
     raw::timer(hclk, ppre)
 }

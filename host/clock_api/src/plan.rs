@@ -65,7 +65,29 @@ pub struct Plan {
 }
 
 impl Plan {
-    /// A clock's hertz, if it runs. They are never above what the clock tree gives.
+    /// A clock's hertz, if it is reported. Through no PLL they are what the chip's clock tree gives, or lower by less than 1 Hz; through a PLL
+    /// in Integer, or lower by less than 1 + N / D Hz (N multiplies, D is the product of the later divisors): never above. In Fractional the steps are `f32` operations, and the hertz can be above what the tree gives:
+    ///
+    /// ```
+    /// # use clock_api::{plan, Chip, Clock, PllRequest, Request, Strategy};
+    /// let audio = PllRequest { strategy: Strategy::Fractional, p: Some(320_438_000), ..PllRequest::default() };
+    /// let request = Request { hse: Some(24_576_000), plls: [PllRequest::default(), audio, PllRequest::default()], ..Request::default() };
+    /// // the tree gives 320,438,000
+    /// assert_eq!(plan(&request, &Chip::two_plls())?.hertz(Clock::Pll2P), Some(320_438_016));
+    /// # Ok::<(), clock_api::Refusal>(())
+    /// ```
+    ///
+    /// A PLL is started for its P. One that has Q or R alone reports them as planned, and no entry starts it:
+    ///
+    /// ```
+    /// # use clock_api::{entries, plan, Chip, Clock, Field, PllRequest, Request};
+    /// let q = PllRequest { q: Some(48_000_000), ..PllRequest::default() };
+    /// let request = Request { plls: [PllRequest::default(), q, PllRequest::default()], ..Request::default() };
+    /// assert_eq!(plan(&request, &Chip::two_plls())?.hertz(Clock::Pll2Q), Some(48_000_000));
+    /// let on = Field::at(28).unwrap(); // PLL2 ON
+    /// assert!(!entries(&request, &Chip::two_plls())?.iter().any(|entry| entry.fields().any(|(field, _)| field == on)));
+    /// # Ok::<(), clock_api::Refusal>(())
+    /// ```
     pub fn hertz(&self, clock: Clock) -> Option<u32> {
         let at = 2 * clock as usize;
         if self.report[at] == 1 {

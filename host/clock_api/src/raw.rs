@@ -115,7 +115,8 @@ pub fn flash(ahb: u32, scale: u32) -> u32 {
     unsafe { c::clock_flash(ahb, scale) }
 }
 
-/// The AHB divisor and clock for a system clock, in `out`, of two words. `set` is 0 for unset, 1 for the hertz.
+/// The AHB divisor and clock for a system clock, in `out`, of two words. `set` is 0 for unset, and then the
+/// hertz are not looked at, or 1 for the hertz.
 #[inline]
 pub fn ahb(system: u32, set: u32, hertz: u32, out: &mut [u32]) -> u32 {
     unsafe { c::clock_ahb(system, set, hertz, out.as_mut_ptr(), out.len()) }
@@ -127,7 +128,7 @@ pub fn apb(hclk: u32, set: u32, hertz: u32, out: &mut [u32]) -> u32 {
     unsafe { c::clock_apb(hclk, set, hertz, out.as_mut_ptr(), out.len()) }
 }
 
-/// The timer clock for an AHB clock and an APB divisor.
+/// The timer clock for an AHB clock and an APB divisor: AHB / 2, / 4, / 8 under 4, 8, 16, and AHB under any other number.
 #[inline]
 pub fn timer(hclk: u32, ppre: u32) -> u32 {
     unsafe { c::clock_timer(hclk, ppre) }

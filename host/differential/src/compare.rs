@@ -1,4 +1,5 @@
 //! One request through the C functions and through the sources, word by word.
+use crate::coverage::Coverage;
 use crate::judge::{self, Chip, Want};
 use crate::leaves;
 use clock_api::{raw, Bank, Entry};
@@ -24,6 +25,8 @@ pub struct Tally {
     pub ended: u64,
     /// Lent slices of another length.
     pub lengths: u64,
+    /// What was met, and how often.
+    pub coverage: Coverage,
 }
 
 pub struct Comparison {
@@ -37,7 +40,9 @@ pub struct Comparison {
 }
 
 /// A word that no call stores.
-const UNTOUCHED: u32 = 0xA5A5_5A5A;
+pub const UNTOUCHED: u32 = 0xA5A5_5A5A;
+/// How many such words stand on either side of a lent slice.
+const GUARD: usize = 8;
 
 type Checked<T> = Result<T, String>;
 
@@ -106,6 +111,9 @@ impl Comparison {
         if let Some(count) = self.tally.refusals.get_mut(number as usize) {
             *count += 1;
         }
+        if number != 0 {
+            self.tally.coverage.refusal(number);
+        }
     }
 
     fn untouched(&self, bank: &Bank, before: &Bank) -> Checked<()> {
@@ -115,29 +123,31 @@ impl Comparison {
         check(bank == before, || "refused, and the bank is changed".into())
     }
 
-    /// Lent slices of another length: 1 for a report or a list, 2 for a bank unless 1 comes first.
+    /// Lent slices of another length, between words that are not lent: 1 for a report or a list, 2 for a bank unless 1 comes first.
     fn lengths(&mut self, case: &Case, number: u32) -> Checked<()> {
-        let mut words = vec![UNTOUCHED; self.random.below(700) as usize];
+        let len = self.random.below(700) as usize;
+        let mut words = vec![UNTOUCHED; len + 2 * GUARD];
+        let lent = GUARD..GUARD + len;
         self.tally.lengths += 1;
-        let len = words.len();
         let first = |other: u32| if number == 1 { 1 } else { other };
         if len != raw::REPORT {
-            let answer = raw::plan(&case.request, &case.chip, &mut words);
+            let answer = raw::plan(&case.request, &case.chip, &mut words[lent.clone()]);
             check(answer == 1, || format!("a report of {len} words: {answer}"))?;
         }
         if len != raw::LIST {
-            let answer = raw::entries(&case.request, &case.chip, &mut words);
+            let answer = raw::entries(&case.request, &case.chip, &mut words[lent.clone()]);
             check(answer == 1, || format!("a list of {len} words: {answer}"))?;
         }
         if len != raw::BANK {
-            let answer = raw::bank(&case.request, &case.chip, &mut words);
+            let answer = raw::bank(&case.request, &case.chip, &mut words[lent]);
             check(answer == first(2), || format!("a bank of {len} words: {answer}"))?;
+            self.tally.coverage.refusal(answer);
         }
         check(words.iter().all(|word| *word == UNTOUCHED), || format!("{len} words lent, and some are changed"))
     }
 
     fn well_formed(&mut self, case: &Case, asked: &Asked, chip: &Chip, number: u32, before: &Bank, bank: &Bank) -> Checked<()> {
-        check(case.meant.map_or(true, |meant| meant == *asked), || format!("the wrapper's bytes say {asked:?}"))?;
+        check(case.meant.map_or(true, |meant| meant.asked == *asked), || format!("the wrapper's bytes say {asked:?}"))?;
         if !asked.by_setters() {
             self.tally.by_no_setter += 1;
         }
@@ -149,11 +159,13 @@ impl Comparison {
             (Want::Plan, Ok(report)) => {
                 check(number == 0, || format!("the Rust ends; the planner refuses with {number}"))?;
                 self.plan(case, asked, report, &run, before, bank)?;
+                self.tally.coverage.plan(asked, chip, report, bank, run.record.entries.len());
             }
-            (Want::Departure(wanted), ended) => {
+            (Want::Departure(wanted, divider), ended) => {
                 check(number == *wanted, || format!("the Rust wrote P's divider against {wanted}; the planner answers {number}"))?;
                 if ended.is_ok() {
                     self.tally.departures[*wanted as usize - 14] += 1;
+                    self.tally.coverage.departure(*wanted, *divider);
                 }
             }
             (Want::Refusal(wanted), Err(text)) => {
@@ -171,15 +183,7 @@ impl Comparison {
     }
 
     /// Every clock, every entry, every word of the bank; then the leaves.
-    fn plan(
-        &mut self,
-        case: &Case,
-        asked: &Asked,
-        report: &[u32; 55],
-        run: &Run<[u32; 55]>,
-        before: &Bank,
-        bank: &Bank,
-    ) -> Checked<()> {
+    fn plan(&mut self, case: &Case, asked: &Asked, report: &[u32; 55], run: &Run<[u32; 55]>, before: &Bank, bank: &Bank) -> Checked<()> {
         if let Some(k) = (0..raw::REPORT).find(|k| report[*k] != self.report[*k]) {
             return Err(format!("word {k} of the report: the Rust {}, the planner {}", report[k], self.report[k]));
         }
@@ -189,6 +193,7 @@ impl Comparison {
             let (rust, planner) = (theirs.get(k).map(|nine| &nine[..]), ours.get(k).copied());
             check(rust == planner, || format!("entry {k}: the Rust {}, the planner {}", shown(rust), shown(planner)))?;
         }
+        check(self.list[1 + 9 * ours.len()..].iter().all(|word| *word == UNTOUCHED), || "words behind the last entry are changed".into())?;
         self.tally.entries += theirs.len() as u64;
         let mut applied = *before;
         for nine in theirs {
@@ -232,30 +237,53 @@ impl Comparison {
                 [5, 24, 0, 0, 0, 0, 0, 0, 0]
             }
         };
-        // what is read at an entry that reads nothing does not count
-        let mut reads: Vec<u32> = Vec::new();
-        for (entry, read) in run.record.entries.iter().zip(&run.record.reads) {
-            let used = if entry[0] == 1 { 0 } else { 1 + (entry[3] > 0) as usize };
-            reads.extend((0..2).map(|k| if k < used { read[k] } else { random.below(3) }));
-        }
-        reads.extend((0..2 + random.below(6)).map(|_| random.below(3)));
-        walked(&run.record.entries, last, reads.len(), |shown| raw::walk(&case.request, &case.chip, &reads, shown))?;
+        let after = 1 + random.below(3);
+        let reads = values(&run.record, after, random);
+        let by_c = |shown: &mut [u32]| raw::walk(&case.request, &case.chip, reads.concat().as_slice(), shown);
+        let by_wrapper = case.meant.map(|meant| {
+            let reads = &reads;
+            move |shown: &mut [[u32; 9]]| clock_api::walk(&meant.request, &meant.chip, reads, shown)
+        });
+        walked(&run.record.entries, last, reads.len(), by_c, by_wrapper)?;
         self.tally.walks += 1;
+        self.tally.coverage.walk(&run.record, last);
         Ok(())
     }
 }
 
-/// What a walk over so many reads has to show: the entries, then the last again and again.
-pub fn walked(entries: &[hal::Nine], last: hal::Nine, reads: usize, walk: impl FnOnce(&mut [u32]) -> usize) -> Checked<()> {
-    let steps = reads / 2 + 1;
-    let mut words = vec![UNTOUCHED; 9 * steps + 4];
-    let count = walk(&mut words);
-    check(count == steps, || format!("a walk over {reads} reads shows {count} times, and not {steps}"))?;
-    for k in 0..steps {
-        let (want, got) = (entries.get(k).unwrap_or(&last), &words[9 * k..][..9]);
+/// Two values for each step: those that the run read, and any others where it read none; so many more steps after its end.
+pub fn values(record: &Record, after: u32, random: &mut Random) -> Vec<[u32; 2]> {
+    let none = [None, None];
+    let reads = record.reads.iter().chain((0..after).map(|_| &none));
+    reads.map(|read| read.map(|value| value.unwrap_or_else(|| random.below(3)))).collect()
+}
+
+/// What a walk over so many steps has to show, by the C function and by the safe wrapper: the entries, then the last again and again.
+pub fn walked(
+    entries: &[hal::Nine],
+    last: hal::Nine,
+    steps: usize,
+    by_c: impl FnOnce(&mut [u32]) -> usize,
+    by_wrapper: Option<impl FnOnce(&mut [[u32; 9]]) -> usize>,
+) -> Checked<()> {
+    let places = steps + 1;
+    let mut words = vec![UNTOUCHED; 9 * places + 2 * GUARD];
+    let count = by_c(&mut words[GUARD..9 * places + GUARD + 4]);
+    check(count == places, || format!("a walk of {steps} steps shows {count} times, and not {places}"))?;
+    let stored = &words[GUARD..][..9 * places];
+    for k in 0..places {
+        let (want, got) = (entries.get(k).unwrap_or(&last), &stored[9 * k..][..9]);
         check(got == want, || format!("a walk shows {} at place {k}, the Rust has {}", shown(Some(got)), shown(Some(want))))?;
     }
-    check(words[9 * steps..] == [UNTOUCHED; 4], || "a walk stores past what it shows".into())
+    let kept = |words: &[u32]| words.iter().all(|word| *word == UNTOUCHED);
+    check(kept(&words[..GUARD]) && kept(&words[GUARD + 9 * places..]), || "a walk stores beside what it shows".into())?;
+    if let Some(walk) = by_wrapper {
+        let mut again = vec![[UNTOUCHED; 9]; places + 1];
+        let count = walk(&mut again);
+        let same = count == places && again[..places].concat() == stored && kept(&again[places]);
+        check(same, || format!("the wrapper's walk shows {count} times, {:?}", &again[..count.min(places)]))?;
+    }
+    Ok(())
 }
 
 /// Nine words in words.

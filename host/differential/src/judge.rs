@@ -57,8 +57,8 @@ pub enum Want {
     Plan,
     /// The refusal that goes with the panic.
     Refusal(u32),
-    /// 14 or 15: the sources have written a divider that the manual forbids.
-    Departure(u32),
+    /// 14 or 15: the sources have written a divider that the manual forbids, this one.
+    Departure(u32, u64),
 }
 
 /// The hertz as the PLLs see them: filled by the MCOs, and PLL1 P by a system clock that needs it.
@@ -108,7 +108,7 @@ fn p_divider(outputs: &[Option<u32>], odd: bool) -> u64 {
 }
 
 /// A divider of P that was written although it is forbidden: refusal 14 or 15 of the first such PLL. An error where another was written.
-fn departure(f: &hal::Hertzes, chip: &Chip, record: &Record) -> Result<Option<u32>, String> {
+fn departure(f: &hal::Hertzes, chip: &Chip, record: &Record) -> Result<Option<(u32, u64)>, String> {
     for pll in 0..chip.plls as usize {
         let written = match set(record, 15 * pll + 6) {
             Some(written) => written,
@@ -119,10 +119,10 @@ fn departure(f: &hal::Hertzes, chip: &Chip, record: &Record) -> Result<Option<u3
             return Err(format!("the Rust wrote {written} to P of PLL{}, whose divider is {divider}", pll + 1));
         }
         if divider > 128 {
-            return Ok(Some(14));
+            return Ok(Some((14, divider)));
         }
         if divider % 2 == 1 && !chip.odd[pll] {
-            return Ok(Some(15));
+            return Ok(Some((15, divider)));
         }
     }
     Ok(None)
@@ -149,8 +149,8 @@ const IN_PLL: [(&str, u32); 4] =
 /// The answer that fits a run of the sources. Which refusal goes with a panic is by its text, and by what was written until then.
 pub fn wanted(asked: &Asked, chip: &Chip, run: &Run<[u32; 55]>) -> Result<Want, String> {
     let f = filled(asked);
-    if let Some(number) = departure(&f, chip, &run.record)? {
-        return Ok(Want::Departure(number));
+    if let Some((number, divider)) = departure(&f, chip, &run.record)? {
+        return Ok(Want::Departure(number, divider));
     }
     let text = match &run.ended {
         Ok(_) => return Ok(Want::Plan),

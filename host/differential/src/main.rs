@@ -1,6 +1,7 @@
 //! The differential run: `differential [requests] [seed]`. Any difference is printed with its request, and the exit code is then 1.
 //! `differential --vectors FILE [seed]` writes a sample of the Rust's answers instead: docs/VECTORS.md.
 mod compare;
+mod coverage;
 mod judge;
 mod leaves;
 mod others;
@@ -15,8 +16,8 @@ use std::time::Instant;
 
 fn main() {
     if hal::VARIANTS.is_empty() {
-        println!("differential: skipped, {}", hal::SOURCES);
-        return;
+        println!("differential: {}, {}", if hal::THERE { "failed" } else { "skipped" }, hal::SOURCES);
+        exit(hal::THERE as i32);
     }
     let number = |place: usize, default: u64| args().nth(place).map_or(default, |text| text.parse().unwrap_or_else(|_| usage()));
     hal::silence_panics();
@@ -30,12 +31,12 @@ fn main() {
     let (count, seed) = (number(1, 1_000_000), number(2, 1));
     let start = Instant::now();
     let mut all = Comparison::new(seed);
+    for (k, case) in Case::fixed().iter().enumerate() {
+        all.case(case).unwrap_or_else(|what| differs(k as u64, case, &what));
+    }
     for k in 0..count {
-        let kind = kind(k);
-        let case = Case::any(kind, &mut all.random);
-        if let Err(what) = all.case(&case) {
-            differs(k, &case, &what);
-        }
+        let case = Case::any(kind(k), &mut all.random);
+        all.case(&case).unwrap_or_else(|what| differs(k, &case, &what));
     }
     let random = &mut all.random;
     let rest = [others::voltage(random), others::reset(random), others::flash(), others::leaves(random, count)].map(|done| {
@@ -45,6 +46,11 @@ fn main() {
         })
     });
     summary(&all, count, seed, rest);
+    let lacking = all.tally.coverage.lacking(count);
+    if !lacking.is_empty() {
+        println!("met too seldom:\n  {}", lacking.join("\n  "));
+        exit(1);
+    }
     println!("no difference, {:.1} s", start.elapsed().as_secs_f64());
 }
 

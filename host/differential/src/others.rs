@@ -1,10 +1,12 @@
 //! The voltage walk, the reset reason, and the leaves.
-use crate::compare::walked;
-use clock_api::raw;
+use crate::compare::{values, walked};
+use clock_api::{raw, Scale};
 use hal::{at, Asked, Record, State, VARIANTS};
 use requests::Random;
 
 type Checked<T> = Result<T, String>;
+
+const SCALES: [Scale; 4] = [Scale::Scale0, Scale::Scale1, Scale::Scale2, Scale::Scale3];
 
 /// Each target, each ACTVOS, flags late or not: how many walks.
 pub fn voltage(random: &mut Random) -> Checked<u64> {
@@ -17,9 +19,10 @@ pub fn voltage(random: &mut Random) -> Checked<u64> {
                 if run.ended != Ok(target as u8) {
                     return Err(format!("the Rust reports {:?} for the target {target}", run.ended));
                 }
-                let mut reads: Vec<u32> = run.record.reads.iter().flat_map(|read| [read[0], random.below(3)]).collect();
-                reads.extend((0..4).map(|_| random.below(3)));
-                walked(&run.record.entries, [0; 9], reads.len(), |shown| raw::voltage_walk(target, &reads, shown))
+                let reads = values(&run.record, 2, random);
+                let by_c = |shown: &mut [u32]| raw::voltage_walk(target, reads.concat().as_slice(), shown);
+                let by_wrapper = |shown: &mut [[u32; 9]]| clock_api::voltage_walk(SCALES[target as usize], &reads, shown);
+                walked(&run.record.entries, [0; 9], reads.len(), by_c, Some(by_wrapper))
                     .map_err(|what| format!("voltage walk to {target} from ACTVOS {actvos}: {what}"))?;
                 count += 1;
             }

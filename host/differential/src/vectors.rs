@@ -100,8 +100,8 @@ fn answer(case: &Case) -> Result<Answer, String> {
     let run = variant.run(&asked, &state, Record::default());
     match (judge::wanted(&asked, &chip, &run)?, run.ended) {
         (Want::Plan, Ok(report)) => Ok(Answer { did: Did::Plan, number: 0, report: Some(report), entries: run.record.entries }),
-        (Want::Departure(number), Ok(_)) => Ok(refused(Did::EndsForbidden, number)),
-        (Want::Departure(number) | Want::Refusal(number), Err(_)) => Ok(refused(Did::Panics, number)),
+        (Want::Departure(number, _), Ok(_)) => Ok(refused(Did::EndsForbidden, number)),
+        (Want::Departure(number, _) | Want::Refusal(number), Err(_)) => Ok(refused(Did::Panics, number)),
         (want, _) => Err(format!("the Rust's run and what is wanted of it disagree: {want:?}")),
     }
 }

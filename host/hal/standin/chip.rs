@@ -25,11 +25,14 @@ impl Default for State {
     }
 }
 
+/// The values read at an entry, of its first and second field; none where nothing was read.
+pub type Reads = [Option<u32>; 2];
+
 /// What was done to the fields: an entry for each operation and each read of a poll, and the values that were read there.
 #[derive(Clone, Debug, Default)]
 pub struct Record {
     pub entries: Vec<Nine>,
-    pub reads: Vec<[u32; 2]>,
+    pub reads: Vec<Reads>,
     /// What was written back to the reset flags.
     pub reset_flags: Option<u32>,
 }
@@ -41,6 +44,8 @@ struct Chip {
     /// Polls that came to their end, and reads that missed since.
     polls: usize,
     missed: u8,
+    /// The first of two flags has come up, and stays up.
+    first_up: bool,
 }
 
 thread_local! {
@@ -50,6 +55,7 @@ thread_local! {
         record: Record::default(),
         polls: 0,
         missed: 0,
+        first_up: false,
     });
 }
 
@@ -67,6 +73,7 @@ pub fn start(state: &State, mut used: Record) {
         chip.record = used;
         chip.polls = 0;
         chip.missed = 0;
+        chip.first_up = false;
     })
 }
 
@@ -76,7 +83,7 @@ pub fn finish() -> Record {
 }
 
 impl Chip {
-    fn push(&mut self, entry: Nine, read: [u32; 2]) {
+    fn push(&mut self, entry: Nine, read: Reads) {
         assert!(self.record.entries.len() < 10_000, "the stand-in: a poll goes on and on");
         self.record.entries.push(entry);
         self.record.reads.push(read);
@@ -122,7 +129,7 @@ impl Op {
             for pair in self.entry[1..self.next].chunks(2) {
                 chip.bank[pair[0] as usize - 1] = pair[1];
             }
-            chip.push(self.entry, [0, 0]);
+            chip.push(self.entry, [None, None]);
         })
     }
 }
@@ -131,15 +138,22 @@ impl Op {
 pub fn poll(field: u32) -> bool {
     with(|chip| {
         let ready = !chip.misses();
-        chip.push(one(2, field, 1), [ready as u32, 0]);
+        chip.push(one(2, field, 1), [Some(ready as u32), None]);
         ready
     })
 }
 
-/// A poll of two ready flags, the first of them: always up.
-pub fn poll_first(field: u32) -> bool {
-    with(|chip| chip.push(one(2, field, 1), [1, 0]));
-    true
+/// A poll of two ready flags, the first of them. Where it is down the second is not read: the sources' `||` ends there.
+pub fn poll_first(field: u32, second: u32) -> bool {
+    with(|chip| {
+        chip.first_up = chip.first_up || !chip.misses();
+        if chip.first_up {
+            chip.push(one(2, field, 1), [Some(1), None]);
+        } else {
+            chip.push([2, field + 1, 1, second + 1, 1, 0, 0, 0, 0], [Some(0), None]);
+        }
+        chip.first_up
+    })
 }
 
 /// A poll of two ready flags, the second of them: it joins the entry of the first.
@@ -150,7 +164,7 @@ pub fn poll_second(field: u32) -> bool {
         assert!(entry[0] == 2 && entry[3] == 0, "the stand-in: no first flag before the second");
         entry[3] = field + 1;
         entry[4] = 1;
-        chip.record.reads.last_mut().expect("as many reads")[1] = ready as u32;
+        chip.record.reads.last_mut().expect("as many reads")[1] = Some(ready as u32);
         ready
     })
 }
@@ -161,7 +175,7 @@ pub fn poll_value(field: u32, as_set: u32) -> u32 {
         let wanted = chip.bank[as_set as usize];
         let other = if wanted == 1 { 2 } else { 1 };
         let value = if chip.misses() { other } else { wanted };
-        chip.push(one(2, field, wanted), [value, 0]);
+        chip.push(one(2, field, wanted), [Some(value), None]);
         value
     })
 }
@@ -170,7 +184,7 @@ pub fn poll_value(field: u32, as_set: u32) -> u32 {
 pub fn check(field: u32) -> bool {
     with(|chip| {
         let ready = chip.state.csirdy;
-        chip.push(one(3, field, 1), [ready as u32, 0]);
+        chip.push(one(3, field, 1), [Some(ready as u32), None]);
         ready
     })
 }
@@ -188,7 +202,7 @@ pub fn hsidiv() -> u32 {
 pub fn actvos(field: u32) -> u32 {
     with(|chip| {
         let value = chip.state.actvos;
-        chip.push(one(4, field, 0), [value, 0]);
+        chip.push(one(4, field, 0), [Some(value), None]);
         value
     })
 }

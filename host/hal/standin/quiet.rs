@@ -23,7 +23,7 @@ pub fn poll(_field: u32) -> bool {
     true
 }
 
-pub fn poll_first(_field: u32) -> bool {
+pub fn poll_first(_field: u32, _second: u32) -> bool {
     true
 }
 

@@ -208,7 +208,7 @@ impl Get<bool> {
     #[inline(always)]
     pub fn bit_is_clear(&self) -> bool {
         if self.field == RDY1 {
-            !chip::poll_first(self.field)
+            !chip::poll_first(self.field, RDY2)
         } else {
             !chip::poll_second(self.field)
         }
@@ -256,6 +256,7 @@ impl Get<ACTVOSR> {
 
 const SW_WORD: u32 = 67;
 const RDY1: u32 = 74;
+const RDY2: u32 = 75;
 
 macro_rules! written {
     ($($name:ident $field:expr, $of:ty;)+) => {
@@ -290,7 +291,7 @@ macro_rules! looked_at {
 }
 looked_at! {
     lsirdy 46, bool; latency 48, u8; csirdy 51, bool; hsi48rdy 53, bool; hserdy 60, bool; hpre 61, HPRE; sws 68, SW;
-    rdy1 RDY1, bool; rdy2 75, bool; hsion 76, bool; hsidiv 77, HSIDIV; actvos 79, ACTVOSR; actvosrdy 80, bool; vosrdy 81, bool;
+    rdy1 RDY1, bool; rdy2 RDY2, bool; hsion 76, bool; hsidiv 77, HSIDIV; actvos 79, ACTVOSR; actvosrdy 80, bool; vosrdy 81, bool;
 }
 
 macro_rules! plls {

@@ -18,9 +18,17 @@ pub const KINDS: [Kind; 4] = [Kind::Realistic, Kind::Boundary, Kind::FullRange, 
 /// A request's bytes and a chip's, well formed or not, and what the wrapper wrote into them where they are not damaged.
 pub struct Case {
     pub kind: Kind,
-    pub meant: Option<Asked>,
+    pub meant: Option<Meant>,
     pub request: Vec<u8>,
     pub chip: Vec<u8>,
+}
+
+/// What is asked for, and the same by the wrapper's types.
+#[derive(Clone, Copy)]
+pub struct Meant {
+    pub asked: Asked,
+    pub request: Request,
+    pub chip: Chip,
 }
 
 #[rustfmt::skip]
@@ -72,12 +80,38 @@ impl Case {
             asked.hertz[at::PLL[2]..].fill(None);
             asked.codes[5] = 0;
         }
-        let mut case = Case { kind, meant: Some(asked), request: typed(&asked).to_bytes(&chip).to_vec(), chip: chip.to_bytes().to_vec() };
+        let mut case = Case::of(kind, asked, chip);
         if kind == Kind::Damaged {
             case.meant = None;
             case.damage(random);
         }
         case
+    }
+
+    fn of(kind: Kind, asked: Asked, chip: Chip) -> Case {
+        let request = typed(&asked);
+        Case {
+            kind,
+            meant: Some(Meant { asked, request, chip }),
+            request: request.to_bytes(&chip).to_vec(),
+            chip: chip.to_bytes().to_vec(),
+        }
+    }
+
+    /// Requests for what is rare: the shortest list, the longest (69 entries), and a divider of P of 257, which the sources write as 0.
+    pub fn fixed() -> [Case; 3] {
+        let shortest = Asked::default();
+        let mut longest = Asked { codes: [0, 0, 0, 1, 1, 1], ..shortest };
+        longest.hertz[at::HSE] = Some(24_000_000);
+        for pll in at::PLL {
+            longest.hertz[pll..pll + 3].copy_from_slice(&[Some(12_288_000), Some(6_144_000), Some(3_072_000)]);
+        }
+        let mut divider = shortest;
+        divider.hertz[at::PLL[1]] = Some(1_300_000);
+        divider.hertz[at::PLL[1] + 1] = Some(167_180_000);
+        let even = Chip { odd_p: [false; 3], ..Chip::two_plls() };
+        [(shortest, Chip::two_plls()), (longest, Chip::three_plls()), (divider, even)]
+            .map(|(asked, chip)| Case::of(Kind::Boundary, asked, chip))
     }
 
     /// Another length, or some bytes changed; now and then nothing that matters.

@@ -117,12 +117,12 @@ systemOf q = hertzOr (systemAsked q) (sourceOf q)
 abbrev pub needsPll1 : Request → Bool
 needsPll1 q = not (eqb (systemOf q) (sourceOf q))
 
--- step 3: PLL1 P takes the system clock's hertz if unset
+-- refusal 5 is a P that is set and unlike the system clock that needs it
 abbrev pub like : Hertz → ℕ → Bool
 like Unset s = true
 like (Hz p) s = eqb p s
 
--- with P at so many hertz
+-- step 3: PLL1 P takes the system clock's hertz
 abbrev pub withP : PllRequest → ℕ → PllRequest
 withP a s = record { strategy = a .strategy; p = Hz s; q = a .q; r = a .r }
 

@@ -1,5 +1,7 @@
--- RM0492 and RM0481, RCC_PLLxCFGR, RCC_PLLxDIVR and RCC_PLLxFRACR: what the fields of a PLL may hold, and what they stand for.
--- Nothing here is taken from document 01's rules.
+-- RM0492 and RM0481, RCC_PLLxCFGR, RCC_PLLxDIVR and RCC_PLLxFRACR: what the fields of a PLL may hold, and what they stand for. No definition of
+-- document 01's rules is used. The manuals are not at hand: the numbers are those that document 01 gives of the fields (One PLL; Register entries;
+-- Who can cause which refusal) and pll.rs has. With a manual, compare PLLxRGE, PLLxVCOSEL and PLLxM in RCC_PLLxCFGR, PLLxN, PLLxP, PLLxQ and PLLxR in
+-- RCC_PLLxDIVR, PLLxFRACN in RCC_PLLxFRACR.
 use mathlib.Core.Bool.{Bool, _&&_, _||_}
 use mathlib.Core.List.{List, [], _∷_}
 use Prim.Native.Nat.{ℕ, _+_, _*_, _%_, _≤_}

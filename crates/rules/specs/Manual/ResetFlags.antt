@@ -1,4 +1,5 @@
--- RM0492, RCC_RSR: the bits of the reset flags, and of RMVF, which clears them.
+-- RM0492, RCC_RSR: the bits of the reset flags, and of RMVF, which clears them. The manual is not at hand. Document 01 and reset_reason.rs name the
+-- flags and not their bits, so these seven numbers are in neither: with a manual, compare them first.
 use Prim.Native.Nat.{ℕ, _/_, _%_, _^_}
 
 -- remove the reset flags

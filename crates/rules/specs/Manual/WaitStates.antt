@@ -1,4 +1,5 @@
 -- RM0492 table 20: FLASH_ACR's LATENCY and WRHIGHFREQ for a voltage scale and an AHB clock. Each scale's rows end at its highest AHB clock.
+-- The manual is not at hand: the rows are document 01's (Flash), and rcc.rs names the table. With a manual, compare the table row by row.
 use mathlib.Core.Bool.{cond}
 use mathlib.Core.List.{List, [], _∷_}
 use Prim.Native.Nat.{ℕ, _*_}

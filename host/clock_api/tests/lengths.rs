@@ -1,0 +1,95 @@
+//! Slices of every other length: refused, and no word of them or beside them is changed.
+use clock_api::{raw, Chip, Request};
+
+const GUARD: usize = 16;
+const WORD: u32 = 0x5AA5_A55A;
+
+/// Lends so many words between others; what the call answers, and that no word is changed.
+fn lent(length: usize, call: impl FnOnce(&mut [u32]) -> u32) -> u32 {
+    let mut words = vec![WORD; length + 2 * GUARD];
+    let answer = call(&mut words[GUARD..GUARD + length]);
+    assert!(words.iter().all(|word| *word == WORD), "{length} words lent, and one in or beside them is changed");
+    answer
+}
+
+/// None, one, one less and one more than the right number, and many more.
+fn others(right: usize) -> [usize; 5] {
+    [0, 1, right - 1, right + 1, 3 * right + 5]
+}
+
+fn asked() -> (Vec<u8>, [u8; raw::CHIP]) {
+    let chip = Chip::two_plls();
+    (Request { system: Some(250_000_000), ..Request::default() }.to_bytes(&chip).to_vec(), chip.to_bytes())
+}
+
+#[test]
+fn what_is_lent_to_the_calls() {
+    let (request, chip) = asked();
+    for length in others(raw::REPORT) {
+        assert_eq!(lent(length, |words| raw::plan(&request, &chip, words)), 1, "a report of {length}");
+    }
+    for length in others(raw::LIST) {
+        assert_eq!(lent(length, |words| raw::entries(&request, &chip, words)), 1, "a list of {length}");
+    }
+    for length in others(raw::BANK) {
+        assert_eq!(lent(length, |words| raw::bank(&request, &chip, words)), 2, "a bank of {length}");
+    }
+}
+
+#[test]
+fn requests_and_chips() {
+    let (request, chip) = asked();
+    let long = [&request[..], &[0; 200]].concat();
+    for length in others(request.len()) {
+        for call in [raw::plan, raw::entries, raw::bank] {
+            for words in [raw::REPORT, raw::LIST, raw::BANK] {
+                assert_eq!(lent(words, |words| call(&long[..length], &chip, words)), 1, "a request of {length}");
+            }
+        }
+    }
+    for length in others(chip.len()) {
+        let chip = [2u8; 64];
+        assert_eq!(lent(raw::REPORT, |words| raw::plan(&request, &chip[..length], words)), 1, "a chip of {length}");
+        assert_eq!(lent(raw::LIST, |words| raw::entries(&request, &chip[..length], words)), 1, "a chip of {length}");
+        assert_eq!(lent(raw::BANK, |words| raw::bank(&request, &chip[..length], words)), 1, "a chip of {length}");
+    }
+}
+
+#[test]
+fn what_is_lent_to_the_leaves() {
+    let part = [0; raw::PART];
+    for length in others(raw::PLL) {
+        assert_eq!(lent(length, |words| raw::pll(1, 32_000_000, &part, words)), 1);
+    }
+    for length in others(raw::PART) {
+        assert_eq!(lent(raw::PLL, |words| raw::pll(1, 32_000_000, &[0; 64][..length], words)), 1);
+    }
+    for length in others(2) {
+        assert_eq!(lent(length, |words| raw::ahb(32_000_000, 0, 0, words)), 1);
+        assert_eq!(lent(length, |words| raw::apb(32_000_000, 0, 0, words)), 1);
+    }
+    for length in others(3) {
+        assert_eq!(lent(length, |words| raw::mco(32_000_000, 0, 0, words)), 1);
+        assert_eq!(lent(length, |words| raw::reset_reason(2, 0, words)), 1);
+    }
+}
+
+/// A walk has no wrong length: it stores as much as there is room and values for, nine words each.
+#[test]
+fn what_is_lent_to_the_walks() {
+    let (request, chip) = asked();
+    let reads = [1; 40];
+    let walks: [&dyn Fn(&[u32], &mut [u32]) -> usize; 2] =
+        [&|reads, shown| raw::walk(&request, &chip, reads, shown), &|reads, shown| raw::voltage_walk(0, reads, shown)];
+    for walk in walks {
+        for room in [0, 1, 8, 9, 10, 17, 18, 100, 400] {
+            for values in [0, 1, 2, 3, 39, 40] {
+                let mut words = vec![WORD; room + 2 * GUARD];
+                let stored = walk(&reads[..values], &mut words[GUARD..GUARD + room]);
+                assert_eq!(stored, (room / 9).min(values / 2 + 1));
+                let (before, behind) = (&words[..GUARD], &words[GUARD + 9 * stored..]);
+                assert!(before.iter().chain(behind).all(|word| *word == WORD), "{room} words, {values} values");
+            }
+        }
+    }
+}
