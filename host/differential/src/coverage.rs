@@ -41,6 +41,9 @@ impl Coverage {
         for apb in 0..3 {
             self.met(format!("APB{} / {}", apb + 1, bank.words[62 + apb]));
         }
+        for mco in 0..2 {
+            self.met(format!("MCO{} / {}", mco + 1, bank.words[55 + 2 * mco]));
+        }
         for pll in (0..chip.plls as usize).filter(|pll| asked.codes[3 + pll] == 1) {
             let clocks = &report[34 + 6 * pll..];
             if let Some(first) = (0..3).find(|output| clocks[2 * output] == 1) {
@@ -72,7 +75,7 @@ impl Coverage {
 
     /// What was met less often than it must be in so many requests.
     pub fn lacking(&self, requests: u64) -> Vec<String> {
-        let share = requests / 10_000;
+        let share = requests / 20_000;
         let often = |what: String| (what, share);
         let mut wanted: Vec<(String, u64)> = REFUSALS.iter().chain(&[24]).map(|n| often(format!("refusal {n}"))).collect();
         wanted.extend([14, 15].map(|n| often(format!("departure {n}"))));
@@ -81,6 +84,7 @@ impl Coverage {
         wanted.extend((0..6).map(|source| often(format!("MCO2 source {source}"))));
         wanted.extend(AHB.map(|divisor| often(format!("AHB / {divisor}"))));
         wanted.extend((1..=3).flat_map(|apb| APB.map(|divisor| often(format!("APB{apb} / {divisor}")))));
+        wanted.extend((1..=2).flat_map(|mco| (0..=15).map(move |divisor| often(format!("MCO{mco} / {divisor}")))));
         wanted.extend((1..=3).flat_map(|pll| OUTPUTS.map(|output| often(format!("PLL{pll} in Fractional for {output}")))));
         wanted.extend(hal::VARIANTS.iter().map(|v| often(variant(v.plls, &v.odd))));
         wanted.extend(["RDY1 late", "RDY2 late", "from HSI"].map(|what| often(what.into())));
@@ -99,7 +103,7 @@ fn variant(plls: u8, odd: &[bool; 3]) -> String {
 fn what_is_not_met_is_told() {
     let mut coverage = Coverage::default();
     let lacking = coverage.lacking(1_000_000);
-    assert!(lacking.contains(&"refusal 19: 0 times, and not 100".into()));
+    assert!(lacking.contains(&"refusal 19: 0 times, and not 50".into()));
     assert!(lacking.contains(&"divider 257: 0 times, and not 1".into()));
     coverage.departure(14, 257);
     assert_eq!(coverage.lacking(1_000_000).len(), lacking.len() - 1);
