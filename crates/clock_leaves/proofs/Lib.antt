@@ -1,3 +1,4 @@
 pub mod Reasons
 pub mod Leaf
+pub mod WaitStates
 pub mod Stated

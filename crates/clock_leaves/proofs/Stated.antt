@@ -9,9 +9,9 @@ use Rattle.types.specs.declared.Refusal.the-variants.{AhbZero, McoRatio, Outsid
 use Rattle.types.specs.declared.ResetReason.the-variants.{PowerOnReset, PinReset, SystemReset, WindowWatchdogReset, IndependentWatchdogReset, GenericWatchdogReset, IllegalStopEntryReset, Unknown}
 use Rattle.prescaler.specs.declared.BusAnswer.{BusAnswer}
 use Rattle.prescaler.specs.declared.McoAnswer.{McoAnswer}
-use Rattle.flash.specs.declared.FlashWaits.the-variants.{Outside, Waits}
+use Rattle.rules.specs.Document01.Result.{refused, ok}
 use Rattle.reset_reason.specs.declared.ResetAnswer.{ResetAnswer}
-use Rattle.clock_leaves.specs.Leaves.{fracnCode, vcoCode, waitsCode, hertzIn, busCode, busRoom, mcoCode, mcoRoom, leafFits}
+use Rattle.clock_leaves.specs.Leaves.{fracnCode, vcoCode, waitsFor, waitsCode, hertzIn, busCode, busRoom, mcoCode, mcoRoom, leafFits}
 use Rattle.clock_leaves.specs.Reasons.{reasonCode, reasonAnswer, reasonRoom}
 
 -- 0 power-on, 1 pin, 2 system, 3 window watchdog, 4 independent watchdog, 5 either watchdog, 6 illegal stop entry, 7 unknown
@@ -32,8 +32,13 @@ pub reset-codes : reasonAnswer true (ResetAnswer.Reason SystemReset 12) ∷ reas
 reset-codes = refl
 
 -- FRACN 0 to 8191, or 8192 out of range; latency + 8 × delay, or 255
-pub step-codes : fracnCode (Value 66) ∷ fracnCode OutOfRange ∷ waitsCode (Waits 5 2) ∷ waitsCode Outside ∷ [] ≡ 66 ∷ 8192 ∷ 21 ∷ 255 ∷ []
+pub step-codes : fracnCode (Value 66) ∷ fracnCode OutOfRange ∷ waitsCode (ok (record { latency = 5; delay = 2 })) ∷ waitsCode (refused AhbZero) ∷ [] ≡ 66 ∷ 8192 ∷ 21 ∷ 255 ∷ []
 step-codes = refl
+
+-- a scale above 3 is 1, also where AHB is 0 Hz, which is 19
+pub waits-refused : waitsFor 0 4 ∷ waitsFor 1 4 ∷ waitsFor 0 3 ∷ [] ≡ refused OutsideCodes ∷ refused OutsideCodes ∷ refused AhbZero ∷ []
+unfolding waitsFor
+waits-refused = refl
 
 -- a VCO's FRACN above 65,535
 pub wide-fracn : (reference n : ℕ) → vcoCode reference n 65_536 ≡ 0

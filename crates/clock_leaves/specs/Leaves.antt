@@ -1,19 +1,23 @@
 -- What the C functions of the leaves answer: docs/CODES.md, The C functions.
-use mathlib.Core.Bool.{Bool, true, false, cond, _&&_}
+use mathlib.Core.Bool.{Bool, true, false, not, cond, _&&_}
 use mathlib.Core.List.{List, [], _∷_}
-use Prim.Native.Nat.{ℕ, _+_, _*_}
+use Prim.Native.Nat.{ℕ}
 use lib.Dec.{eqb, ltb}
 use Rattle.types.specs.declared.Fracn.{Fracn}
 use Rattle.types.specs.declared.Fracn.the-variants.{Value, OutOfRange}
 use Rattle.types.specs.declared.Hertz.{Hertz}
 use Rattle.types.specs.declared.Hertz.the-variants.{Unset, Hz}
+use Rattle.types.specs.declared.Waits.{Waits}
+use Rattle.types.specs.declared.Refusal.the-variants.{OutsideCodes, AhbZero}
 use Rattle.ieee754.specs.Whole.{vcoWhole}
+use Rattle.rules.specs.Document01.Result.{Result, refused, ok, require, _>>_}
+use Rattle.rules.specs.Document01.Flash.{flashOf}
+use Rattle.rules.specs.Document01.Chip.{scaleOf}
 use Rattle.rules.specs.Document01.Refusals.{numberOf}
 use Rattle.rules.specs.Document01.Words.{storedFrom, hertzWords}
 use Rattle.prescaler.specs.declared.BusAnswer.{BusAnswer}
 use Rattle.prescaler.specs.declared.McoAnswer.{McoAnswer}
-use Rattle.flash.specs.declared.FlashWaits.{FlashWaits}
-use Rattle.flash.specs.declared.FlashWaits.the-variants.{Outside, Waits}
+use Rattle.flash.specs.Flash.{packed}
 
 -- FRACN 0 to 8191; 8192 out of range
 abbrev pub fracnCode : Fracn → ℕ
@@ -24,10 +28,17 @@ fracnCode OutOfRange = 8192
 abbrev pub vcoCode : (reference n fracn : ℕ) → ℕ
 vcoCode reference n fracn = cond (ltb fracn 65536) (vcoWhole reference n fracn) 0
 
--- latency + 8 × delay; 255 for no such scale or clock
-abbrev pub waitsCode : FlashWaits → ℕ
-waitsCode Outside = 255
-waitsCode (Waits l d) = l + 8 * d
+-- wait states: no such scale is refusal 1, an AHB clock of 0 Hz 19
+unfoldable pub waitsFor : (ahb scale : ℕ) → Result Waits
+waitsFor ahb scale = do
+  require (ltb scale 4) OutsideCodes
+  require (not (eqb ahb 0)) AhbZero
+  ok (flashOf (scaleOf scale) ahb)
+
+-- latency + 8 × delay; 255 for either refusal
+abbrev pub waitsCode : Result Waits → ℕ
+waitsCode (refused n) = 255
+waitsCode (ok w) = packed w
 
 -- hertz as two numbers: 0 for unset, 1 and the hertz
 abbrev pub hertzIn : (set hertz : ℕ) → Hertz

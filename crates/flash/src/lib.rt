@@ -1,9 +1,10 @@
 // Flash wait states: rcc.rs, flash_setup.
 ghost use mathlib.Core.Path.{_≡_};
-ghost use Prim.Native.Nat.{_+_, _≤_, _<_};
-ghost use Rattle.rules.specs.Document01.Flash.{columnOf, atColumn};
-ghost use Rattle.rules.specs.Document01.Chip.{scaleOf};
-ghost use Rattle.flash.specs.Flash.{packed, placed, flashFor};
+ghost use Prim.Native.Nat.{_+_, _<_};
+ghost use Rattle.rules.specs.Document01.Flash.{columnOf, atColumn, flashOf};
+ghost use Rattle.flash.specs.Flash.{packed, placed};
+use types::Scale;
+use types::Waits;
 
 // Four rows, voltage scales 0 to 3, of 252 columns: a row is twelve lines of 21 columns. An entry is latency + 8 * delay, so \x0b is
 // latency 3 with delay 1, and \x1f is latency 7 with delay 3.
@@ -58,17 +59,13 @@ const WAITS: [u8; 1008] = *b"\
     \x1f\x1f\x1f\x1f\x1f\x1f\x1f\x1f\x1f\x1f\x1f\x1f\x1f\x1f\x1f\x1f\x1f\x1f\x1f\x1f\x1f\
 ";
 
-// Latency and delay; Outside for a scale above 3 or an AHB clock of 0 Hz.
-pub enum FlashWaits {
-    Waits(u32, u32),
-    Outside,
-}
-
 // The column of an AHB clock.
 fn column(ahb: u32) -> u32
-    requires { ⌜ 1 ≤ ahb ⌝ }
     ensures { λ r. ⌜ r ≡ columnOf ahb ⌝ }
 {
+    if ahb == 0 {
+        return 0;
+    }
     let mhz = (ahb - 1) / 1_000_000;
     if mhz < 251 { mhz } else { 251 }
 }
@@ -82,29 +79,26 @@ fn at(row: usize, column: u8) -> u8
 }
 
 // The entry of a row and a column. Each row has its own arm, and a column is a byte: so only the row that is read is laid out.
-fn entry(scale: u32, column: u32) -> u8
-    requires { ⌜ (scale < 4) × (column < 252) ⌝ }
-    ensures { λ r. ⌜ r ≡ packed (atColumn (scaleOf scale) column) ⌝ }
+fn entry(scale: Scale, column: u32) -> u8
+    requires { ⌜ column < 252 ⌝ }
+    ensures { λ r. ⌜ r ≡ packed (atColumn scale column) ⌝ }
 {
     let k = column as u8;
     match scale {
-        0 => at(0, k),
-        1 => at(252, k),
-        2 => at(504, k),
-        _ => at(756, k),
+        Scale::Scale0 => at(0, k),
+        Scale::Scale1 => at(252, k),
+        Scale::Scale2 => at(504, k),
+        Scale::Scale3 => at(756, k),
     }
 }
 
 // The wait states for an AHB clock at a voltage scale.
-pub fn flash_setup(ahb: u32, scale: u32) -> FlashWaits
-    ensures { λ r. ⌜ r ≡ flashFor ahb scale ⌝ }
+pub fn flash_setup(ahb: u32, scale: Scale) -> Waits
+    ensures { λ r. ⌜ r ≡ flashOf scale ahb ⌝ }
 {
-    if scale > 3 {
-        return FlashWaits::Outside;
-    }
-    if ahb == 0 {
-        return FlashWaits::Outside;
-    }
     let e = entry(scale, column(ahb)) as u32;
-    FlashWaits::Waits(e % 8, e / 8)
+    Waits {
+        latency: e % 8,
+        delay: e / 8,
+    }
 }

@@ -9,7 +9,11 @@ use lib.Ieee.{Float, fin, lt, le, ofInt, toUnsigned}
 use lib.Ieee.Casts.{toUnsigned-lt}
 use Rattle.types.specs.declared.Fracn.{Fracn}
 use Rattle.types.specs.declared.Fracn.the-variants.{Value, OutOfRange}
-use Rattle.ieee754.specs.Steps.{fracnCut, accept, float}
+use Rattle.types.specs.declared.Fraction.the-variants.{Part}
+use Rattle.types.specs.declared.Refusal.the-variants.{FracnOutside}
+use Rattle.ieee754.specs.Steps.{fracnFloat, fracnCut, fracnOf, accept, float}
+use Rattle.rules.specs.Document01.Result.{ok, require, _>>_}
+use Rattle.rules.specs.Document01.OnePll.{taken, fracnFrom}
 use Rattle.ieee754.proofs.Cut.{minusOne, power, cut-in, lt-wider, zero8191}
 
 abbrev pub zeroF : Float
@@ -38,3 +42,12 @@ refused-high f h k = sym (ap (λ (t : Bool). accept t (toUnsigned 16 f)) (ap (λ
 pub refused-low : (f : Float) → le zeroF f ≡ false → OutOfRange ≡ fracnCut f
 unfolding ofInt
 refused-low f h = sym (ap (λ (t : Bool). accept (t && le f topF) (toUnsigned 16 f)) h)
+
+-- the answer as document 01 has it: a fraction, or refusal 13
+pub taken-from : (ref n divider output : Float) → taken (fracnOf ref n divider output) ≡ fracnFrom ref n divider output
+unfolding fracnOf fracnFrom
+taken-from ref n divider output = go (le (float 0) (fracnFloat ref n divider output) && le (fracnFloat ref n divider output) (float 8191)) (toUnsigned 16 (fracnFloat ref n divider output))
+  where
+    go : (t : Bool) (v : ℕ) → taken (accept t v) ≡ (require t FracnOutside >> ok (Part v))
+    go true v = refl
+    go false v = refl

@@ -6,6 +6,7 @@ ghost use lib.Ieee as Ieee;
 ghost use lib.Ieee.{binary32};
 ghost use Rattle.ieee754.specs.Steps.{float, fracnOf, vcoOf};
 ghost use Rattle.ieee754.specs.Whole.{fracnFor, vcoWhole};
+ghost use Rattle.rules.specs.Document01.OnePll.{taken, fracnFrom};
 use types::Fracn;
 
 // The f32 nearest to n, a tie to the even one: the Rust's `n as f32`.
@@ -36,9 +37,10 @@ pub struct FracnInput {
     pub output: f32,
 }
 
-// FRACN = 8192 × ((output × divider) / reference − N), cut down. Outside 0 to 8191, a NaN included, it is out of range.
+// FRACN = 8192 × ((output × divider) / reference − N), cut down. Outside 0 to 8191, a NaN included, it is out of range, which is refusal 13.
 pub fn calc_fracn(i: FracnInput) -> Fracn
-    ensures { λ r. ⌜ r ≡ fracnOf (i .reference) (i .n) (i .divider) (i .output) ⌝ }
+    ensures steps { λ r. ⌜ r ≡ fracnOf (i .reference) (i .n) (i .divider) (i .output) ⌝ }
+    ensures rules { λ r. ⌜ taken r ≡ fracnFrom (i .reference) (i .n) (i .divider) (i .output) ⌝ }
 {
     let f = 8192.0 * (((i.output * i.divider) / i.reference) - i.n);
     if f >= 0.0 {

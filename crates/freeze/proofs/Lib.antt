@@ -2,4 +2,3 @@ pub mod Answered
 pub mod Back
 pub mod Parts
 pub mod Steps
-pub mod WaitStates

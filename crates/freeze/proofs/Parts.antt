@@ -9,7 +9,7 @@ use Rattle.types.specs.declared.Plan.{Plan}
 use Rattle.types.specs.declared.Planned.{Planned}
 use Rattle.core_clocks.specs.declared.Selected.{Selected}
 use Rattle.rules.specs.Document01.Plan.{Buses, Mcos}
-use Rattle.freeze.specs.declared.codes.Waits.{Waits}
+use Rattle.types.specs.declared.Waits.{Waits}
 use Rattle.freeze.specs.declared.codes.Numbers.{Numbers}
 use Rattle.freeze.specs.Freeze.{accepted}
 

@@ -20,12 +20,10 @@ use Rattle.rules.specs.Document01.Request.{pllAt}
 use Rattle.config.specs.declared.Configured.{Configured}
 use Rattle.pll.specs.declared.PllAnswer.{PllAnswer}
 use Rattle.pll.specs.Answer.{onePllOf}
-use Rattle.flash.specs.declared.FlashWaits.{FlashWaits}
 use Rattle.core_clocks.specs.declared.Buses.{Buses}
 use Rattle.core_clocks.specs.declared.BusesAnswer.{BusesAnswer}
 use Rattle.core_clocks.specs.declared.Mcos.{Mcos}
 use Rattle.core_clocks.specs.declared.McosAnswer.{McosAnswer}
-use Rattle.freeze.specs.declared.codes.Waits.{Waits}
 use Rattle.freeze.specs.declared.codes.Numbers.{Numbers}
 
 -- the answer that steps come to, of crates/rules
@@ -106,23 +104,6 @@ all x y z = do
 -- from the PLLs on, by what steps 1 to 3 settled
 abbrev pub configuredPlan : Request → ChipState → Configured → Result Plan
 configuredPlan q c s = withPlls q c (all (one true (c .odd1) (s .source) (s .pll1)) (one true (c .odd2) (s .source) (s .pll2)) (one (c .three) (c .odd3) (s .source) (pllAt q 2)))
-
--- ---- wait states
--- Flash: the scale's number
-abbrev pub scaleCode : Scale → ℕ
-scaleCode Scale0 = 0
-scaleCode Scale1 = 1
-scaleCode Scale2 = 2
-scaleCode Scale3 = 3
-
--- Flash: latency and delay
-abbrev pub waits : Flash.Waits → Waits
-waits w = record { latency = w .latency; delay = w .delay }
-
--- Flash: the same from flash_setup's answer; the first column for AHB 0 Hz, which 19 refuses
-abbrev pub waitsIn : FlashWaits → Waits
-waitsIn FlashWaits.Outside = record { latency = 0; delay = 0 }
-waitsIn (FlashWaits.Waits l d) = record { latency = l; delay = d }
 
 -- ---- the plan's other numbers: steps 5, 7 and 9, and the codes of document 01, Register entries, for SRC, SW and the MCOs' selectors
 abbrev pub chosen : Request → ChipState → (needs : Bool) → (hclk ppre1 ppre2 : ℕ) → Numbers

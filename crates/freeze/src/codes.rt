@@ -2,15 +2,12 @@
 ghost use mathlib.Core.Path.{_≡_};
 ghost use Rattle.rules.specs.Document01.Mco as Mco;
 ghost use Rattle.rules.specs.Document01.Plan as Plan;
-ghost use Rattle.rules.specs.Document01.Flash.{flashOf};
 ghost use Rattle.freeze.specs.Freeze as Spec;
-use flash::FlashWaits;
 use types::ChipState;
 use types::Hertz;
 use types::Mco1Source;
 use types::Mco2Source;
 use types::Request;
-use types::Scale;
 
 fn mco1_code(source: Mco1Source) -> u32
     ensures { λ r. ⌜ r ≡ Mco.mco1Code source ⌝ }
@@ -58,42 +55,6 @@ fn sw_of(needs: bool, hse: Hertz) -> u32
     }
 }
 
-fn scale_code(scale: Scale) -> u32
-    ensures { λ r. ⌜ r ≡ Spec.scaleCode scale ⌝ }
-{
-    match scale {
-        Scale::Scale0 => 0,
-        Scale::Scale1 => 1,
-        Scale::Scale2 => 2,
-        Scale::Scale3 => 3,
-    }
-}
-
-// Latency and delay.
-pub struct Waits {
-    pub latency: u32,
-    pub delay: u32,
-}
-
-// AHB is never 0 Hz here, by refusal 19; the first column stands for it.
-fn waits_of(w: FlashWaits) -> Waits
-    ensures { λ r. ⌜ r ≡ Spec.waitsIn w ⌝ }
-{
-    match w {
-        FlashWaits::Outside => Waits {
-            latency: 0,
-            delay: 0,
-        },
-        FlashWaits::Waits(latency, delay) => Waits { latency, delay },
-    }
-}
-
-fn wait_states(ahb: u32, scale: Scale) -> Waits
-    ensures { λ r. ⌜ r ≡ Spec.waits (flashOf scale ahb) ⌝ }
-{
-    waits_of(flash::flash_setup(ahb, scale_code(scale)))
-}
-
 // What is chosen beside the buses, the clock outputs and the PLLs.
 pub struct Numbers {
     pub timx: u32,
@@ -117,7 +78,7 @@ pub fn chosen(q: Request, c: ChipState, needs: bool, hclk: u32, ppre1: u32, ppre
     let source2 = q.mco2source;
     let scale = c.scale;
     let per = core_clocks::peripheral(peripheral, hse);
-    let waits = wait_states(hclk, scale);
+    let waits = flash::flash_setup(hclk, scale);
     Numbers {
         timx: prescaler::timer(hclk, ppre1),
         timy: prescaler::timer(hclk, ppre2),

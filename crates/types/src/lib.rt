@@ -61,6 +61,12 @@ pub enum Scale {
     Scale3,
 }
 
+// Flash wait states: LATENCY, and WRHIGHFREQ's delay.
+pub struct Waits {
+    pub latency: u32,
+    pub delay: u32,
+}
+
 // The chip as it is handed in: the PLL count, for each PLL whether P may divide by an odd number (0 or 1), the voltage scale's
 // number, and HSION and HSIDIV as read. Any number can stand in any place; refusal 1 judges them.
 pub struct Chip {

@@ -1,7 +1,8 @@
--- `flash::entry` meets its contract: a row of the table begins at 252 times its scale.
+-- `flash::entry` meets its contract: a row of the table begins at 252 times its scale's number.
 use mathlib.Core.Path.{_≡_, _∙_}
 use Prim.Native.Nat.{ℕ, _+_, _*_, _/_, _%_, _<_}
 use native.Mathlib.Omega.{arith}
+use borrow.Author.Needs.{needs}
 use Rattle.rules.specs.Document01.Flash.{atColumn}
 use Rattle.rules.specs.Document01.Chip.{scaleOf}
 use Rattle.flash.specs.Flash.{packed, placed}
@@ -18,29 +19,41 @@ at-row s k i e h =
 cast-k : tie.Need-cast-k
 cast-k c = omega arith
 
+enum-told : tie.Need-enum-told
+enum-told c = search needs
+
 at-requires : tie.Need-at-requires
 at-requires c κs = omega arith
+
+enum-told-2 : tie.Need-enum-told-2
+enum-told-2 c = search needs
 
 at-requires-2 : tie.Need-at-requires-2
 at-requires-2 c κs = omega arith
 
+enum-told-3 : tie.Need-enum-told-3
+enum-told-3 c = search needs
+
 at-requires-3 : tie.Need-at-requires-3
 at-requires-3 c κs = omega arith
+
+enum-told-4 : tie.Need-enum-told-4
+enum-told-4 c = search needs
 
 at-requires-4 : tie.Need-at-requires-4
 at-requires-4 c κs = omega arith
 
 returns : tie.Need-returns
-returns c = let a = c .before .before .args in c .at .ensures ∙ at-row (a .scale) (a .column) (0 + a .column) (omega arith) (omega arith)
+returns c = let k = c .before .before .before .args .column in rw (c .before .enum-told .given .1) (c .at .ensures ∙ at-row 0 k (0 + k) (omega arith) (omega arith))
 
 returns-2 : tie.Need-returns-2
-returns-2 c = let a = c .before .before .args in c .at2 .ensures ∙ at-row (a .scale) (a .column) (252 + a .column) (omega arith) (omega arith)
+returns-2 c = let k = c .before .before .before .args .column in rw (c .before .enum-told2 .given .1) (c .at2 .ensures ∙ at-row 1 k (252 + k) (omega arith) (omega arith))
 
 returns-3 : tie.Need-returns-3
-returns-3 c = let a = c .before .before .args in c .at3 .ensures ∙ at-row (a .scale) (a .column) (504 + a .column) (omega arith) (omega arith)
+returns-3 c = let k = c .before .before .before .args .column in rw (c .before .enum-told3 .given .1) (c .at3 .ensures ∙ at-row 2 k (504 + k) (omega arith) (omega arith))
 
 returns-4 : tie.Need-returns-4
-returns-4 c = let a = c .before .before .args in c .at4 .ensures ∙ at-row (a .scale) (a .column) (756 + a .column) (omega arith) (omega arith)
+returns-4 c = let k = c .before .before .before .args .column in rw (c .before .enum-told4 .given .1) (c .at4 .ensures ∙ at-row 3 k (756 + k) (omega arith) (omega arith))
 
 pub entry-spec : {M : Type 1} → statement M
-entry-spec = tie.close (tie.spec cast-k at-requires at-requires-2 at-requires-3 at-requires-4 returns returns-2 returns-3 returns-4)
+entry-spec = tie.close (tie.spec cast-k enum-told at-requires enum-told-2 at-requires-2 enum-told-3 at-requires-3 enum-told-4 at-requires-4 returns returns-2 returns-3 returns-4)

@@ -1,17 +1,24 @@
 -- `fracn::calc_fracn` meets its contract: each way is a lemma of `Accept` at the value that is tested.
-use mathlib.Core.Path.{_≡_, sym, _∙_, subst}
+use mathlib.Core.Path.{_≡_, sym, ap, _∙_, subst}
 use Prim.Native.Nat.{ℕ, _<_, _^_}
 use lib.Ieee.{Float, ofBits, ofInt, toUnsigned}
 use lib.Ieee.Casts.{toUnsigned-lt}
+use Rattle.types.specs.declared.Fracn.{Fracn}
 use Rattle.ieee754.specs.Steps.{fracnOf, fracnFloat}
+use Rattle.rules.specs.Document01.OnePll.{taken, fracnFrom}
 use Rattle.fracn.specs.declared.FracnInput.{FracnInput}
-use Rattle.fracn.proofs.Accept.{asked, to16, accepted, refused-high, refused-low}
+use Rattle.fracn.proofs.Accept.{asked, to16, accepted, refused-high, refused-low, taken-from}
 use Rattle.fracn.proofs.calc_fracn.Statement.{statement}
 use Rattle.fracn.proofs.calc_fracn.Tie as tie
 
 -- the value that the code tests
 abbrev tested : FracnInput → Float
 tested i = fracnFloat (i .reference) (i .n) (i .divider) (i .output)
+
+-- what the f32 step answers is document 01's FRACN, or its refusal 13
+both : (i : FracnInput) {r : Fracn} → r ≡ fracnOf (i .reference) (i .n) (i .divider) (i .output)
+    → (r ≡ fracnOf (i .reference) (i .n) (i .divider) (i .output)) × (taken r ≡ fracnFrom (i .reference) (i .n) (i .divider) (i .output))
+both i e = (e, ap taken e ∙ taken-from (i .reference) (i .n) (i .divider) (i .output))
 
 truncating-f32-to-u64-requires : tie.Need-truncating-f32-to-u64-requires
 unfolding ofBits ofInt
@@ -26,16 +33,17 @@ cast-t9 c =
 returns : tie.Need-returns
 unfolding fracnOf ofInt ofBits
 returns c =
-    accepted (tested (c .before .before .before .before .before .before .args .i)) (c .truncating-f32-to-u64 .result)
-    (c .before .before .if1 .taken) (c .before .if2 .taken) (c .truncating-f32-to-u64 .ensures)
+    both (c .before .before .before .before .before .before .args .i)
+    (accepted (tested (c .before .before .before .before .before .before .args .i)) (c .truncating-f32-to-u64 .result)
+    (c .before .before .if1 .taken) (c .before .if2 .taken) (c .truncating-f32-to-u64 .ensures))
 
 returns-2 : tie.Need-returns-2
 unfolding fracnOf ofInt ofBits
-returns-2 c = refused-high (tested (c .before .before .before .before .before .args .i)) (c .before .if1 .taken) (c .if2 .left)
+returns-2 c = both (c .before .before .before .before .before .args .i) (refused-high (tested (c .before .before .before .before .before .args .i)) (c .before .if1 .taken) (c .if2 .left))
 
 returns-3 : tie.Need-returns-3
 unfolding fracnOf ofInt ofBits
-returns-3 c = refused-low (tested (c .before .before .before .before .args .i)) (c .if1 .left)
+returns-3 c = both (c .before .before .before .before .args .i) (refused-low (tested (c .before .before .before .before .args .i)) (c .if1 .left))
 
 pub calc-fracn-spec : {M : Type 1} → statement M
 calc-fracn-spec = tie.close (tie.spec truncating-f32-to-u64-requires cast-t9 returns returns-2 returns-3)

@@ -23,7 +23,7 @@ calc-fracn-requires : tie.Need-calc-fracn-requires
 calc-fracn-requires c κs = search needs
 
 steps : (c : tie.After-calc-fracn) → c .calc-fracn .result ≡ fracnOf (float (c .before .before .before .before .before .args .reference)) (float (c .before .before .before .before .before .args .n)) (float (c .before .before .before .before .before .args .divider)) (float (c .before .before .before .before .before .args .output))
-steps c = rw (c .calc-fracn .ensures, c .before .to-f324 .ensures, c .before .before .to-f323 .ensures, c .before .before .before .to-f322 .ensures, c .before .before .before .before .to-f32 .ensures)
+steps c = rw (c .calc-fracn .ensures .0, c .before .to-f324 .ensures, c .before .before .to-f323 .ensures, c .before .before .before .to-f322 .ensures, c .before .before .before .before .to-f32 .ensures)
 
 returns : tie.Need-returns
 returns c =

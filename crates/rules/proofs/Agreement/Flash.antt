@@ -7,7 +7,8 @@ use lib.Dec.{leb, eqb, lit<}
 use borrow.Author.Tests.{eqb-true, leb-true, leb-false, le-leb, lt-leb}
 use Rattle.types.specs.declared.Scale.{Scale}
 use Rattle.types.specs.declared.Scale.the-variants.{Scale0, Scale1, Scale2, Scale3}
-use Rattle.rules.specs.Document01.Flash.{Waits, atColumn, flashOf}
+use Rattle.types.specs.declared.Waits.{Waits}
+use Rattle.rules.specs.Document01.Flash.{atColumn, flashOf}
 use Rattle.rules.specs.Rust.Rcc.{WaitStates, match-vos}
 use Rattle.laws.proofs.Tests.{by-test, and-left, and-right, allBelow, at-each}
 

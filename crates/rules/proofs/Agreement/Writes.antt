@@ -20,7 +20,8 @@ use Rattle.rules.specs.Document01.Fields
 use Rattle.rules.specs.Document01.Fields.{ofPll}
 use Rattle.rules.specs.Document01.OnePll.{clockOf, pClock}
 use Rattle.rules.specs.Document01.Mco.{mco1Code, mco2Code}
-use Rattle.rules.specs.Document01.Flash.{Waits, flashOf}
+use Rattle.types.specs.declared.Waits.{Waits}
+use Rattle.rules.specs.Document01.Flash.{flashOf}
 use Rattle.rules.specs.Document01.Plan as R
 use Rattle.rules.specs.Document01.Plan.{srcOf}
 use Rattle.rules.specs.Document01.Entries.{prftenOf, bit, hseEntries, sourceEntries, outputStart, startEntries}

@@ -12,7 +12,8 @@ use Rattle.rules.specs.Document01.Mco.{mco1Code, mco2Code}
 use Rattle.rules.specs.Document01.Hertz.{ratioOf}
 use Rattle.rules.specs.Document01.Buses.{Selected, peripheralOf, hpreOf, ppreOf, timerOf}
 use Rattle.rules.specs.Document01.Walk.{vosCode}
-use Rattle.rules.specs.Document01.Flash.{Waits, atColumn, flashOf}
+use Rattle.types.specs.declared.Waits.{Waits}
+use Rattle.rules.specs.Document01.Flash.{atColumn, flashOf}
 use Rattle.rules.proofs.Stated.Bank.{counted}
 
 -- ---- the codes of the MCO sources, as they are read and as they are written

@@ -22,7 +22,8 @@ use Rattle.rules.specs.Document01.ChoiceOfM.{chosenM}
 use Rattle.rules.specs.Document01.Target.{targetOf}
 use Rattle.types.specs.declared.Fracn.{Fracn}
 use Rattle.types.specs.declared.Fracn.the-variants.{Value, OutOfRange}
-use Rattle.ieee754.specs.Steps.{float, fracnOf, vcoOf}
+use lib.Ieee.{Float, le, toUnsigned}
+use Rattle.ieee754.specs.Steps.{float, fracnFloat, fracnOf, vcoOf}
 use Rattle.rules.specs.Document01.Result.{Result, refused, ok, _>>=_, _>>_, require}
 use Rattle.rules.specs.Document01.Hertz.{isSet, hertzOr, orElse, notZero}
 
@@ -100,7 +101,13 @@ rgeOf ref = cond (ltb ref 2_000_000) 0 (cond (ltb ref 4_000_000) 1 (cond (ltb re
 abbrev pub firstOf : PllRequest → ℕ
 firstOf a = hertzOr (orElse (a .p) (orElse (a .q) (a .r))) 0
 
--- FRACN, if Fractional, or refusal 13
+-- FRACN = 8192 × ((output × divider) / ref − N) in f32: refusal 13 outside 0–8191 before cutting, then cut down
+unfoldable pub fracnFrom : (ref n divider output : Float) → Result Fraction
+fracnFrom ref n divider output = do
+  require (le (float 0) (fracnFloat ref n divider output) && le (fracnFloat ref n divider output) (float 8191)) FracnOutside
+  ok (Part (toUnsigned 16 (fracnFloat ref n divider output)))
+
+-- what the f32 step answers, as a fraction or refusal 13
 abbrev pub taken : Fracn → Result Fraction
 taken (Value f) = ok (Part f)
 taken OutOfRange = refused FracnOutside

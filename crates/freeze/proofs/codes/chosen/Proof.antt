@@ -7,8 +7,8 @@ use Rattle.freeze.proofs.codes.chosen.Tie as tie
 peripheral-requires : tie.Need-peripheral-requires
 peripheral-requires c κs = search needs
 
-wait-states-requires : tie.Need-wait-states-requires
-wait-states-requires c κs = search needs
+flash-setup-requires : tie.Need-flash-setup-requires
+flash-setup-requires c κs = search needs
 
 timer-requires : tie.Need-timer-requires
 timer-requires c κs = search needs
@@ -29,7 +29,7 @@ mco2-code-requires : tie.Need-mco2-code-requires
 mco2-code-requires c κs = search needs
 
 returns : tie.Need-returns
-returns c = equal-numbers (c .before .before .before .before .before .timer .ensures) (c .before .before .before .before .timer2 .ensures) (c .before .before .before .src-of .ensures) (c .before .before .sw-of .ensures) (c .before .mco1-code .ensures) (c .mco2-code .ensures) (c .before .before .before .before .before .before .before .peripheral .ensures) (c .before .before .before .before .before .before .wait-states .ensures)
+returns c = equal-numbers (c .before .before .before .before .before .timer .ensures) (c .before .before .before .before .timer2 .ensures) (c .before .before .before .src-of .ensures) (c .before .before .sw-of .ensures) (c .before .mco1-code .ensures) (c .mco2-code .ensures) (c .before .before .before .before .before .before .before .peripheral .ensures) (c .before .before .before .before .before .before .flash-setup .ensures)
 
 pub chosen-spec : {M : Type 1} → statement M
-chosen-spec = tie.close (tie.spec peripheral-requires wait-states-requires timer-requires timer-requires-2 src-of-requires sw-of-requires mco1-code-requires mco2-code-requires returns)
+chosen-spec = tie.close (tie.spec peripheral-requires flash-setup-requires timer-requires timer-requires-2 src-of-requires sw-of-requires mco1-code-requires mco2-code-requires returns)
