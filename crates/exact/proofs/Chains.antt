@@ -1,13 +1,13 @@
 -- What a step of the tree reads, from what the clock before it reads.
 use mathlib.Core.Path.{_≡_, refl, sym, ap, _∙_}
 use mathlib.Core.List.{List, [], _∷_, _++_}
-use Prim.Native.Nat.{ℕ, zero, suc, _+_, _*_, _/_, _≤_, _<_}
+use Prim.Native.Nat.{ℕ, zero, suc, _+_, _*_, _≤_}
 use native.Mathlib.Nat.{mul-assoc, mul-comm, mul-one}
 use native.Mathlib.Omega.{arith}
 use lib.ListN.{length, getD, List·getD-eq-default}
-use borrow.Author.Tests.{le-leb, lt-leb}
+use borrow.Author.Tests.{ne-eqb}
 use Rattle.rules.specs.Manual.Path.{PllName, whole, part, Path, direct, through, product, num, den, extend}
-use Rattle.rules.specs.Manual.Tree.{Oscillator, off, runs, Chain, none, along, fromOscillator, switched, gated, over, timerBy, vcoBy}
+use Rattle.rules.specs.Manual.Tree.{Oscillator, off, runs, Chain, none, along, fromOscillator, switched, gated, over, hsiBy, timerBy, vcoBy}
 use Rattle.exact.specs.declared.Reading.the-variants.{Nothing, Exactly}
 use Rattle.exact.specs.Exact.{cap, readingOf, scaledBy}
 use Rattle.exact.proofs.Cap.{max, cap-fits, cap-times}
@@ -45,27 +45,31 @@ over-scaled none d h = refl
 over-scaled (along p) zero h = absurd (omega arith)
 over-scaled (along p) (suc d) h = rw (num-extend p (suc d), den-extend p (suc d), cap-times (num p) 1 (omega arith), mul-one (num p), cap-times (den p) (suc d) h)
 
+-- ---- a word that is none of these codes, as the `_` of a match says it: the code of the last arm first
+abbrev pub NoneOf : List ℕ → ℕ → Type 0
+NoneOf [] w = Unit {0}
+NoneOf (c ∷ cs) w = NoneOf cs w × (w ≡ c → ⊥)
+
 -- ---- a timer
 -- by 1 is as it was
-one : (c : Chain) → readingOf (over c 1) ≡ readingOf c
+pub one : (c : Chain) → readingOf (over c 1) ≡ readingOf c
 one none = refl
 one (along p) = rw (num-extend p 1, den-extend p 1, mul-one (den p))
 
-module _ (c : Chain) {t ppre : ℕ} where
-  pub timer-4 : t ≡ 0 → 4 ≤ ppre → readingOf (over c (ppre / 2)) ≡ readingOf (timerBy t ppre c)
-  timer-4 e l = rw (e, le-leb 4 ppre l)
+module _ (c : Chain) where
+  -- any TIMPRE but 0 is as 1
+  pub timpre-on : (t ppre : ℕ) → 1 ≤ t → timerBy t ppre c ≡ timerBy 1 ppre c
+  timpre-on zero ppre h = absurd (omega arith)
+  timpre-on (suc t) ppre h = refl
 
-  pub timer-below-4 : t ≡ 0 → ppre < 4 → readingOf (over c 1) ≡ readingOf (timerBy t ppre c)
-  timer-below-4 e l = rw (e, lt-leb 4 ppre l) (one c)
-
-module _ (c : Chain) {ppre : ℕ} where
-  pub timer-8 : (t : ℕ) → 1 ≤ t → 8 ≤ ppre → readingOf (over c (ppre / 4)) ≡ readingOf (timerBy t ppre c)
-  timer-8 zero h l = absurd (omega arith)
-  timer-8 (suc t) h l = rw (le-leb 8 ppre l)
-
-  pub timer-below-8 : (t : ℕ) → 1 ≤ t → ppre < 8 → readingOf (over c 1) ≡ readingOf (timerBy t ppre c)
-  timer-below-8 zero h l = absurd (omega arith)
-  timer-below-8 (suc t) h l = rw (lt-leb 8 ppre l) (one c)
+  -- none by a PPRE that no register holds
+  pub timer-none : (t ppre : ℕ) → NoneOf (16 ∷ 8 ∷ 4 ∷ 2 ∷ 1 ∷ []) ppre → readingOf (over c 0) ≡ readingOf (timerBy t ppre c)
+  timer-none zero ppre h =
+      rw (ne-eqb ppre 1 (h .0 .0 .0 .0 .1), ne-eqb ppre 2 (h .0 .0 .0 .1), ne-eqb ppre 4 (h .0 .0 .1), ne-eqb ppre 8 (h .0 .1), ne-eqb ppre 16 (h .1))
+      (sym (over-zero c refl))
+  timer-none (suc t) ppre h =
+      rw (ne-eqb ppre 1 (h .0 .0 .0 .0 .1), ne-eqb ppre 2 (h .0 .0 .0 .1), ne-eqb ppre 4 (h .0 .0 .1), ne-eqb ppre 8 (h .0 .1), ne-eqb ppre 16 (h .1))
+      (sym (over-zero c refl))
 
 -- ---- an oscillator
 pub oscillator : (h : ℕ) → h ≤ max → Exactly h 1 ≡ readingOf (fromOscillator (runs h))
@@ -75,6 +79,10 @@ oscillator h l = rw (← cap-fits h l, ← cap-fits 1 (omega arith))
 pub switched-on : (on : ℕ) (o : Oscillator) → 1 ≤ on → o ≡ switched on o
 switched-on zero o h = absurd (omega arith)
 switched-on (suc on) o h = refl
+
+-- HSI by an HSIDIV other than 1, 2, 4, 8
+pub hsi-off : (div : ℕ) → NoneOf (8 ∷ 4 ∷ 2 ∷ 1 ∷ []) div → hsiBy div ≡ off
+hsi-off div h = rw (ne-eqb div 1 (h .0 .0 .0 .1), ne-eqb div 2 (h .0 .0 .1), ne-eqb div 4 (h .0 .1), ne-eqb div 8 (h .1))
 
 pub never-runs : (on : ℕ) → Nothing ≡ readingOf (fromOscillator (switched on off))
 never-runs zero = refl

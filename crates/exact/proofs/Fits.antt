@@ -5,7 +5,7 @@ use mathlib.Core.List.{List, [], _∷_}
 use Prim.Native.Nat.{ℕ, zero, suc, _+_, _-_, _*_, _/_, _≤_, _<_}
 use native.Mathlib.Nat.{le-trans, mul-le-mul, div-le-self}
 use native.Mathlib.Omega.{arith}
-use lib.Dec.{leb, eqb}
+use lib.Dec.{leb}
 use lib.ListN.{getD}
 use borrow.Author.Tests.{leb-true, leb-false}
 use Rattle.types.specs.declared.Hertz.{Hertz}
@@ -19,9 +19,10 @@ use Rattle.rules.specs.Document01.Entries.{entriesOf}
 use Rattle.rules.specs.Document01.Bank.{applyAll, resetBank}
 use Rattle.rules.specs.Manual.Path.{PllName, pll1, pll2, Path, num, den, extend}
 use Rattle.rules.specs.Manual.Tree
-use Rattle.rules.specs.Manual.Tree.{Oscillator, off, runs, Chain, none, along, Output, P, Q, R, Clock, sys, hclk, pclk1, pclk2, pclk3, timx, timy, per, hsi, csi, hsi48, lsi, hse, mco1, mco2, output, number, divider, enable, word, pllWord, fromOscillator, switched, gated, over, vcoBy, timerBy, pathOf}
+use Rattle.rules.specs.Manual.Tree.{Oscillator, off, runs, Chain, none, along, Output, P, Q, R, Clock, sys, hclk, pclk1, pclk2, pclk3, timx, timy, per, hsi, csi, hsi48, lsi, hse, mco1, mco2, output, number, divider, enable, word, pllWord, fromOscillator, switched, gated, over, among, vcoBy, timerBy, pathOf}
 use Rattle.exact.specs.declared.Reading.the-variants.{Exactly}
 use Rattle.rules.specs.Demands.Readings.{fedBy}
+use Rattle.rules.proofs.Manual.Codes.{by-timer}
 use Rattle.exact.specs.Exact.{cap, readingOf}
 use Rattle.exact.proofs.Cap.{max, cap-fits, cap-full}
 use Rattle.exact.proofs.Chains.{over-scaled}
@@ -67,8 +68,8 @@ gated-small zero h = nothing
 gated-small (suc on) h = h
 
 timer-small : {d : ℕ} (t ppre : ℕ) {c : Chain} → ppre ≤ 16 → Small d c → Small (d * 16) (timerBy t ppre c)
-timer-small {d} zero ppre l h = either (Small (d * 16)) (leb 4 ppre) _ _ (over-small (ppre / 2) (omega arith) h) (wider (omega arith) h)
-timer-small {d} (suc t) ppre l h = either (Small (d * 16)) (leb 8 ppre) _ _ (over-small (ppre / 4) (omega arith) h) (wider (omega arith) h)
+timer-small {d} t ppre l h =
+    by-timer (Small (d * 16)) t ppre (wider (omega arith) h) (over-small (ppre / 2) (omega arith) h) (over-small (ppre / 4) (omega arith) h) nothing
 
 switched-slow : (w : ℕ) {o : Oscillator} → Slow o → Slow (switched w o)
 switched-slow zero h = stopped
@@ -106,7 +107,7 @@ module _ (b : List ℕ) (fed : Oscillator) (w : Within b) (fed-slow : Slow fed) 
   unfolding Tree.hsiOf
   hsi-slow =
       switched-slow (word b 76)
-      (either Slow (eqb (64_000_000 / word b 77 * word b 77) 64_000_000) _ _ (slow (omega (arith, div-le-self 64_000_000 (word b 77)))) stopped)
+      (either Slow (among (1 ∷ 2 ∷ 4 ∷ 8 ∷ []) (word b 77)) _ _ (slow (omega (arith, div-le-self 64_000_000 (word b 77)))) stopped)
 
   csi-slow : Slow (Tree.csiOf b fed)
   unfolding Tree.csiOf

@@ -29,19 +29,18 @@ pub fn fixed(bank: &[u32], on: usize, hertz: u64) -> Reading
     Reading::Exactly(hertz, 1)
 }
 
-// 64,000,000 Hz / HSIDIV, which is whole for each HSIDIV that there is; none by any other.
+// 64,000,000 Hz / HSIDIV for HSIDIV 1, 2, 4, 8; none by any other.
 pub fn hsi(bank: &[u32]) -> Reading
     ensures { λ r. ⌜ ((fed : Oscillator) → r ≡ readingOf (fromOscillator (Tree.hsiOf (now (bank .entry)) fed))) ⌝ }
 {
-    let div = word(bank, HSIDIV) as u64;
-    if div == 0 {
-        return Reading::Nothing;
+    let div = word(bank, HSIDIV);
+    match div {
+        1 => fixed(bank, HSION, 64_000_000),
+        2 => fixed(bank, HSION, 32_000_000),
+        4 => fixed(bank, HSION, 16_000_000),
+        8 => fixed(bank, HSION, 8_000_000),
+        _ => Reading::Nothing,
     }
-    let hertz = 64_000_000 / div;
-    if hertz * div == 64_000_000 {
-        return fixed(bank, HSION, hertz);
-    }
-    Reading::Nothing
 }
 
 // HSE as fed.

@@ -42,20 +42,29 @@ pub fn over(clock: Reading, d: u64) -> Reading
     scaled(clock, 1, d)
 }
 
-// What the timers on an APB divide AHB by: PPRE / 2 from PPRE 4 up under TIMPRE 0, PPRE / 4 from 8 up else, and 1 below.
+// What the timers on an APB divide AHB by: PPRE / 2 from PPRE 4 up under TIMPRE 0, PPRE / 4 from 8 up else, and 1 below; 0, which gives none, for
+// a PPRE other than 1, 2, 4, 8, 16.
 pub fn timer_divisor(timpre: u32, ppre: u32) -> u32
     ensures { λ r. ⌜ ((c : Chain) → readingOf (Tree.over c r) ≡ readingOf (Tree.timerBy timpre ppre c)) ⌝ }
 {
     if timpre == 0 {
-        if 4 <= ppre {
-            return ppre / 2;
+        match ppre {
+            1 => return 1,
+            2 => return 1,
+            4 => return 2,
+            8 => return 4,
+            16 => return 8,
+            _ => return 0,
         }
-        return 1;
     }
-    if 8 <= ppre {
-        return ppre / 4;
+    match ppre {
+        1 => 1,
+        2 => 1,
+        4 => 1,
+        8 => 2,
+        16 => 4,
+        _ => 0,
     }
-    1
 }
 
 // VCO: the source / M × N, N being its field + 1; under FRACEN × (N + FRACN / 8192). None with M at 0.

@@ -1,62 +1,50 @@
 -- Laws of one PLL from its outputs' span to M, each at the place where the code takes it.
-use mathlib.Core.Path.{_≡_, refl, sym, ap, _∙_, subst}
-use mathlib.Core.Logic.{_⊎_, inl, inr, ⊎-elim}
-use mathlib.Core.Bool.{Bool, true, false, not, _&&_, _||_}
-use Prim.Native.Nat.{ℕ, zero, suc, _*_, _/_, _≤_, _<_}
+use mathlib.Core.Path.{_≡_, sym, ap, _∙_, subst}
+use mathlib.Core.Bool.{Bool, true, _&&_, _||_}
+use Prim.Native.Nat.{ℕ, _*_, _/_, _≤_, _<_}
 use native.Mathlib.Omega.{arith}
 use native.Mathlib.Nat.{le-trans, mul-le-mul-left}
-use lib.Dec.{leb, ltb, eqb}
+use lib.Dec.{leb}
 use borrow.Author.Tests.{le-leb, lt-leb, lt-ltb}
+use Rattle.types.specs.declared.Hertz.{Hertz}
+use Rattle.types.specs.declared.Hertz.the-variants.{Unset, Hz}
 use Rattle.types.specs.declared.PllRequest.{PllRequest}
 use Rattle.types.specs.declared.Pll.{Pll}
 use Rattle.types.specs.declared.FoundM.{FoundM}
 use Rattle.types.specs.declared.FoundM.the-variants.{Nothing, M}
 use Rattle.types.specs.declared.Refusal.the-variants.{TargetOutside, NoM}
-use Rattle.rules.specs.Document01.Result.{Result, refused, ok, _>>=_, _>>_, require}
-use Rattle.rules.specs.Document01.Hertz.{isSet, notZero}
+use Rattle.rules.specs.Document01.Result.{Result, _>>=_, _>>_}
+use Rattle.rules.specs.Document01.Hertz.{isSet, notZero, hertzOr, orElse}
 use Rattle.rules.specs.Document01.ChoiceOfM.{chosenM, Admissible}
 use Rattle.rules.specs.Document01.Target.{targetOf}
-use Rattle.rules.specs.Document01.OnePll.{wanted, noneZero, countedP, countedOutputs, least, largest, Range, rangeOf, rangeFor, targetFor, dividedBy, settled, running}
+use Rattle.rules.specs.Document01.OnePll.{countedP, countedOutputs, least, largest, Range, rangeOf, dividedBy, settled, running}
 use Rattle.laws.proofs.Tests.{and-left, and-right}
 use Rattle.laws.proofs.Numbers.{le-div}
 use Rattle.rules.proofs.Document01.ChoiceOfM.{chosen-some}
 use Rattle.rules.proofs.Document01.Target.{target-le}
 use Rattle.rules.proofs.Document01.Span.{Pos, pos-is, Inside, Span, span}
 use Rattle.rules.proofs.Legal.OnePll.{Good, range-good, Divides, SomeDivider, divider-p, divider-q}
-use Rattle.pll.specs.declared.PllAnswer.the-variants.{Planned, Refused}
+use Rattle.pll.specs.declared.PllAnswer.the-variants.{Refused}
 use Rattle.pll.specs.Answer.{pllAnswer, afterSpan}
-use Rattle.pll.specs.Spans.{asked, requestOf, Spanned}
-use Rattle.pll.specs.Search.{numberOf}
-use Rattle.pll.specs.Settle.{HasDivider, firstAsked, Settles, settledFor}
-
--- ---- M as a number
-none-is : (f : FoundM) → ((m : ℕ) → f ≡ M m → 1 ≤ m) → numberOf f ≡ 0 → f ≡ Nothing
-none-is Nothing h e = refl
-none-is (M m) h e = absurd (let l = h m refl in let z : m ≡ 0 = e in omega arith)
-
-some-is : (f : FoundM) (m : ℕ) → m ≡ numberOf f → (m ≡ 0 → ⊥) → f ≡ M m
-some-is Nothing m e n = absurd (n e)
-some-is (M k) m e n = ap M (sym e)
+use Rattle.pll.specs.Spans.{Spanned}
+use Rattle.pll.specs.Settle.{HasDivider, Settles, settledFor}
 
 -- ---- dividers
-with-some : (target f : ℕ) → SomeDivider target (asked f) → HasDivider target f
-with-some target zero d n = absurd (n refl)
-with-some target (suc f) d n = d
+with-some : (target : ℕ) (h : Hertz) → Pos h → SomeDivider target h → HasDivider target h
+with-some target Unset p d = tt
+with-some target (Hz h) p d = (p, d)
 
-with-both : (target f : ℕ) → Divides target (asked f) → HasDivider target f
-with-both target zero d n = absurd (n refl)
-with-both target (suc f) d n = d .0
+with-both : (target : ℕ) (h : Hertz) → Pos h → Divides target h → HasDivider target h
+with-both target Unset p d = tt
+with-both target (Hz h) p d = (p, d .0)
 
-first-pos : (p q r : ℕ) → isSet (asked p) || (isSet (asked q) || isSet (asked r)) ≡ true → 1 ≤ firstAsked p q r
-first-pos (suc p) q r w = omega arith
-first-pos zero (suc q) r w = omega arith
-first-pos zero zero (suc r) w = omega arith
-first-pos zero zero zero w = absurd (let z : _≡_ {A = ℕ} 0 1 = cc in omega arith)
+first-pos : (p q r : Hertz) → Pos p → Pos q → Pos r → isSet p || (isSet q || isSet r) ≡ true → 1 ≤ hertzOr (orElse p (orElse q r)) 0
+first-pos (Hz p) q r i j k w = i
+first-pos Unset (Hz q) r i j k w = j
+first-pos Unset Unset (Hz r) i j k w = k
+first-pos Unset Unset Unset i j k w = absurd (let z : _≡_ {A = ℕ} 0 1 = cc in omega arith)
 
-module _ (odd : Bool) (source : ℕ) (fractional : Bool) (p q r low most : ℕ) (sp : Spanned odd source (requestOf fractional p q r) low most) where
-  abbrev a : PllRequest
-  a = requestOf fractional p q r
-
+module _ (odd : Bool) (source : ℕ) (a : PllRequest) (low most : ℕ) (sp : Spanned odd source a low most) where
   abbrev g : Range
   g = rangeOf most
 
@@ -112,19 +100,19 @@ module _ (odd : Bool) (source : ℕ) (fractional : Bool) (p q r low most : ℕ) 
   within : g .start ≤ target → leb (g .start) target && leb target (g .end) ≡ true
   within h = rw (le-leb (g .start) target h, le-leb target (g .end) (target-le low most (g .end)))
 
-  pub no-m : g .start ≤ target → numberOf chosen ≡ 0 → Refused NoM ≡ pllAnswer (afterSpan odd source a)
+  pub no-m : g .start ≤ target → chosen ≡ Nothing → Refused NoM ≡ pllAnswer (afterSpan odd source a)
   unfolding dividedBy
-  no-m h e =
-      let none : chosen ≡ Nothing = none-is chosen (λ m w. chosen-some source target (g .low) (g .high) m w .admissible .above) e in
-      rw (same, within h, none)
+  no-m h e = rw (same, within h, e)
 
   -- ---- what follows
-  module _ (from : g .start ≤ target) (m : ℕ) (is : m ≡ numberOf chosen) (some : m ≡ 0 → ⊥) where
+  module _ (from : g .start ≤ target) (m : ℕ) (is : chosen ≡ M m) where
     admits : Admissible source (g .low) (g .high) m
-    admits = chosen-some source target (g .low) (g .high) m (some-is chosen m is some) .admissible
+    admits = chosen-some source target (g .low) (g .high) m is .admissible
 
-    pub settles : Settles p q r target (source / m)
-    unfolding requestOf
+    pub above : 1 ≤ m
+    above = admits .above
+
+    pub settles : Settles a target (source / m)
     settles =
         let t1 : 128_000_000 ≤ target = le-trans (good .from) from in
         let b = ends in
@@ -134,12 +122,12 @@ module _ (odd : Bool) (source : ℕ) (fractional : Bool) (p q r low most : ℕ) 
         record {
           some = le-div (admits .above) (let l : m * 1 ≤ m * g .low = mul-le-mul-left m (good .lows) in le-trans (omega arith) (le-trans l (admits .from-low)));
           small = small;
-          first = first-pos p q r (sp .some);
-          hasP = with-some target p (divider-p low most g (b .0) (b .1) good (sp .near) t1 odd (a .p) inP posP);
-          hasQ = with-both target q (divider-q low most g (b .0) (b .1) good (sp .near) t1 (a .q) inQ posQ);
-          hasR = with-both target r (divider-q low most g (b .0) (b .1) good (sp .near) t1 (a .r) inR posR);
+          first = first-pos (a .p) (a .q) (a .r) posP posQ posR (sp .some);
+          hasP = with-some target (a .p) posP (divider-p low most g (b .0) (b .1) good (sp .near) t1 odd (a .p) inP posP);
+          hasQ = with-both target (a .q) posQ (divider-q low most g (b .0) (b .1) good (sp .near) t1 (a .q) inQ posQ);
+          hasR = with-both target (a .r) posR (divider-q low most g (b .0) (b .1) good (sp .near) t1 (a .r) inR posR);
         }
 
     pub rest : pllAnswer (running (settledFor odd a (g .vcosel) target m (source / m))) ≡ pllAnswer (afterSpan odd source a)
     unfolding dividedBy settledFor settled
-    rest = rw (same, within from, some-is chosen m is some)
+    rest = rw (same, within from, is)

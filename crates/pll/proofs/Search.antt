@@ -1,18 +1,17 @@
 -- Laws of the search for M: no M before the first or after the last is in range, and the best so far as two numbers.
-use mathlib.Core.Path.{_≡_, refl, sym, ap, _∙_}
+use mathlib.Core.Path.{_≡_, refl, ap, _∙_}
 use mathlib.Core.Bool.{Bool, true, false, _&&_}
-use Prim.Native.Nat.{ℕ, zero, suc, _+_, _-_, _*_, _/_, _≤_, _<_}
+use Prim.Native.Nat.{ℕ, zero, suc, _+_, _-_, _*_, _/_, _≤_, _<_, min}
 use native.Mathlib.Omega.{arith}
-use native.Mathlib.Nat.{le-trans, lt-of-le-of-lt, mul-le-mul-right, div-mul-le-self, div-lt-iff-lt-mul, le-div-iff-mul-le}
+use native.Mathlib.Nat.{mul-le-mul-right, div-mul-le-self, div-lt-iff-lt-mul, le-div-iff-mul-le}
 use lib.Dec.{ltb, leb}
-use borrow.Author.Tests.{le-leb, lt-leb, le-ltb}
-use mathlib.Core.Logic.{_≢_}
+use borrow.Author.Tests.{lt-leb, leb-true, leb-false}
 use Rattle.types.specs.declared.FoundM.{FoundM}
 use Rattle.types.specs.declared.FoundM.the-variants.{Nothing, M}
 use Rattle.laws.proofs.Tests.{by-test}
-use Rattle.rules.specs.Document01.ChoiceOfM.{inRange, shortfallOf, betterOf, bestTo, chosenM}
-use Rattle.rules.proofs.Document01.ChoiceOfM.{in-range, better-out, better-first, better-less, better-not}
-use Rattle.pll.specs.Search.{lowOf, highOf, numberOf}
+use Rattle.rules.specs.Document01.ChoiceOfM.{inRange, shortfallOf, bestTo}
+use Rattle.rules.proofs.Document01.ChoiceOfM.{in-range, better-out, better-first, better-less, better-not, best-none, best-more}
+use Rattle.pll.specs.Search.{lowOf, highOf}
 
 -- ---- which M are in range
 pub low-pos : (t : Bool) → 1 ≤ lowOf t
@@ -43,6 +42,13 @@ module _ (source low high : ℕ) where
   pub after-last : 1 ≤ low → (k : ℕ) → source / low < k → inRange source low high k ≡ false
   after-last h k l = out-low k (div-lt-iff-lt-mul {k = low} {x = source} {y = k} h .0 l)
 
+  -- where the last is before the first, none is
+  pub all-out : 1 ≤ source → 1 ≤ low → min (source / low) 63 < (source - 1) / high + 1 → (k : ℕ) → k ≤ 63 → inRange source low high k ≡ false
+  all-out s l h k t =
+      by-test (leb k ((source - 1) / high))
+      (λ b. before-first s k (leb-true k _ b))
+      (λ b. after-last l k (let g = leb-false k _ b in omega arith))
+
   -- from the first to the last they are
   pub between : 1 ≤ source → 1 ≤ low → 1 ≤ high → (k : ℕ) → (source - 1) / high < k → k ≤ source / low → inRange source low high k ≡ true
   between s l h k f t =
@@ -58,54 +64,26 @@ module _ (source target low high : ℕ) where
   best-same a zero h out = ap best (let e : zero ≡ a = omega arith in e)
   best-same a (suc b) h out =
       by-test (leb a b)
-      (λ t. better-out source target low high (best b) (suc b) (out (suc b) (let l = borrow.Author.Tests.leb-true a b t in omega arith) (omega arith)) ∙ best-same a b (borrow.Author.Tests.leb-true a b t) (λ k l m. out k l (omega arith)))
-      (λ f. ap best (let l = borrow.Author.Tests.leb-false a b f in let e : suc b ≡ a = omega arith in e))
+      (λ t. better-out source target low high (best b) (suc b) (out (suc b) (let l = leb-true a b t in omega arith) (omega arith)) ∙ best-same a b (leb-true a b t) (λ k l m. out k l (omega arith)))
+      (λ f. ap best (let l = leb-false a b f in let e : suc b ≡ a = omega arith in e))
 
--- ---- the best so far as two numbers: M or 0, and its shortfall
-abbrev pub Held : (source target : ℕ) → FoundM → ℕ → ℕ → Type 0
-Held source target Nothing b l = b ≡ 0
-Held source target (M k) b l = (b ≡ k) × (1 ≤ k) × (l ≡ shortfallOf source target k)
-
+-- ---- the best so far as two numbers: M and its shortfall
 module _ (source target low high : ℕ) where
   -- the first in range is held
-  pub held-first : (f : FoundM) (b l m : ℕ) → 1 ≤ m → Held source target f b l → inRange source low high m ≡ true → b ≡ 0 → Held source target (betterOf source target low high f m) m (shortfallOf source target m)
-  held-first Nothing b l m o h r e = rw (better-first source target low high m r) (refl, o, refl)
-  held-first (M k) b l m o h r e = absurd (let p : b ≡ k = h .0 in let q : 1 ≤ k = h .1 in omega arith)
+  pub first-held : (m : ℕ) → 1 ≤ m → ((k : ℕ) → k < m → inRange source low high k ≡ false) → inRange source low high m ≡ true → bestTo source target low high (m + 1 - 1) ≡ M m
+  first-held m o out r =
+      let n : bestTo source target low high (m - 1) ≡ Nothing = best-same source target low high 0 (m - 1) (omega arith) (λ k l h. out k (omega arith)) ∙ best-none source target low high in
+      rw (best-more source target low high m o, n) (better-first source target low high m r)
 
   -- one that falls short by less takes its place, and no other does
-  pub held-less : (f : FoundM) (b l m : ℕ) → 1 ≤ m → Held source target f b l → inRange source low high m ≡ true → ltb (shortfallOf source target m) l ≡ true → Held source target (betterOf source target low high f m) m (shortfallOf source target m)
-  held-less Nothing b l m o h r e = rw (better-first source target low high m r) (refl, o, refl)
-  held-less (M k) b l m o h r e = rw (better-less source target low high k m r (sym (ap (λ (x : ℕ). ltb (shortfallOf source target m) x) (h .2)) ∙ e)) (refl, o, refl)
+  module _ (k m l : ℕ) (o : 1 ≤ m) (held : bestTo source target low high (m - 1) ≡ M k) (is : l ≡ shortfallOf source target k) (r : inRange source low high m ≡ true) where
+    pub less-held : ltb (shortfallOf source target m) l ≡ true → bestTo source target low high (m + 1 - 1) ≡ M m
+    less-held e = rw (best-more source target low high m o, held) (better-less source target low high k m r (rw is at e))
 
-  pub held-not : (f : FoundM) (b l m : ℕ) → Held source target f b l → inRange source low high m ≡ true → (b ≡ 0 → ⊥) → ltb (shortfallOf source target m) l ≡ false → Held source target (betterOf source target low high f m) b l
-  held-not Nothing b l m h r n e = absurd (n h)
-  held-not (M k) b l m h r n e = rw (better-not source target low high k m r (sym (ap (λ (x : ℕ). ltb (shortfallOf source target m) x) (h .2)) ∙ e)) h
+    pub still-held : ltb (shortfallOf source target m) l ≡ false → bestTo source target low high (m + 1 - 1) ≡ M k
+    still-held e = rw (best-more source target low high m o, held) (better-not source target low high k m r (rw is at e))
 
-pub held-number : (source target : ℕ) (f : FoundM) (b l : ℕ) → Held source target f b l → b ≡ numberOf f
-held-number source target Nothing b l h = h
-held-number source target (M k) b l h = h .0
-
--- a shortfall that is held fits
-pub held-fits : (source target : ℕ) → target < 2_147_483_648 → (f : FoundM) (b l : ℕ) → Held source target f b l → (b ≡ 0 → ⊥) → l < 2_147_483_648
+-- a shortfall fits
+pub held-fits : (source target k l : ℕ) → target < 2_147_483_648 → l ≡ shortfallOf source target k → l < 2_147_483_648
 unfolding shortfallOf
-held-fits source target t Nothing b l h n = absurd (n h)
-held-fits source target t (M k) b l h n = let e = h .2 in omega arith
-
--- an M that falls short by nothing is not bettered
-module _ (source target low high : ℕ) where
-  better-kept : (k m : ℕ) → shortfallOf source target k ≡ 0 → betterOf source target low high (M k) m ≡ M k
-  unfolding betterOf
-  better-kept k m e = rw (e, and-none (inRange source low high m) (ltb (shortfallOf source target m) 0) (le-ltb (shortfallOf source target m) 0 (omega arith)))
-
-  onward : (n m k : ℕ) → n ≤ m → bestTo source target low high n ≡ M k → shortfallOf source target k ≡ 0 → bestTo source target low high m ≡ M k
-  unfolding bestTo
-  onward n zero k h e z = let u : zero ≡ n = omega arith in ap (bestTo source target low high) u ∙ e
-  onward n (suc m) k h e z =
-      by-test (leb n m) (λ t. rw (onward n m k (borrow.Author.Tests.leb-true n m t) e z) (better-kept k (suc m) z))
-      (λ f. let l = borrow.Author.Tests.leb-false n m f in let u : suc m ≡ n = omega arith in ap (bestTo source target low high) u ∙ e)
-
-  pub best-exact : (n b l : ℕ) → n ≤ 63 → Held source target (bestTo source target low high n) b l → b ≢ 0 → l ≡ 0 → bestTo source target low high 63 ≡ bestTo source target low high n
-  best-exact n b l h held nz z = go (bestTo source target low high n) refl held where
-    go : (f : FoundM) → bestTo source target low high n ≡ f → Held source target f b l → bestTo source target low high 63 ≡ bestTo source target low high n
-    go Nothing e t = absurd (nz t)
-    go (M k) e t = onward n 63 k h e (sym (t .2) ∙ z) ∙ sym e
+held-fits source target k l t e = omega arith

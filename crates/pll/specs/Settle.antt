@@ -1,35 +1,32 @@
 -- For the private functions: the steps of document 01's `settled`, with what each has to know.
-use mathlib.Core.Path.{_≡_}
 use mathlib.Core.Bool.{Bool}
 use Prim.Native.Nat.{ℕ, _/_, _≤_, _<_}
+use Rattle.types.specs.declared.Hertz.{Hertz}
+use Rattle.types.specs.declared.Hertz.the-variants.{Unset, Hz}
 use Rattle.types.specs.declared.PllRequest.{PllRequest}
 use Rattle.types.specs.declared.PllSettings.{PllSettings}
 use Rattle.types.specs.declared.Fraction.{Fraction}
-use Rattle.rules.specs.Document01.Hertz.{hertzOr, orElse}
 use Rattle.rules.specs.Document01.Result.{Result, refused, ok, _>>_}
-use Rattle.rules.specs.Document01.OnePll.{Range, rgeOf, vcoBy, outputOf, dividerP, allowedP, settled}
-use Rattle.pll.specs.Spans.{asked}
+use Rattle.rules.specs.Document01.OnePll.{firstOf, rgeOf, vcoBy, outputOf, dividerP, allowedP, settled}
 use Rattle.pll.specs.declared.settle.Chosen.{Chosen}
 use Rattle.pll.specs.declared.settle.Multiplied.{Multiplied}
 use Rattle.pll.specs.declared.settle.Multiplied.the-variants.{By, OutOfRange}
 
--- a requested output has a divider of at least 1
-abbrev pub HasDivider : (target f : ℕ) → Type 0
-HasDivider target f = (f ≡ 0 → ⊥) → 1 ≤ target / f
+-- One PLL, second point, each divider = target / output: a requested output is above 0 Hz, and its divider is at least 1
+abbrev pub HasDivider : (target : ℕ) → Hertz → Type 0
+HasDivider target Unset = Unit {0}
+HasDivider target (Hz h) = (1 ≤ h) × (1 ≤ target / h)
 
--- the first requested of P, Q, R
-abbrev pub firstAsked : (p q r : ℕ) → ℕ
-firstAsked p q r = hertzOr (orElse (asked p) (orElse (asked q) (asked r))) 0
-
-pub record Settles (p q r target reference : ℕ) : Type 0 where
+-- refusals 12 to 15: what they and the settings have to know
+pub record Settles (a : PllRequest) (target reference : ℕ) : Type 0 where
   pub some : 1 ≤ reference
   pub small : target < 2_147_483_648
-  pub first : 1 ≤ firstAsked p q r
-  pub hasP : HasDivider target p
-  pub hasQ : HasDivider target q
-  pub hasR : HasDivider target r
+  pub first : 1 ≤ firstOf a
+  pub hasP : HasDivider target (a .p)
+  pub hasQ : HasDivider target (a .q)
+  pub hasR : HasDivider target (a .r)
 
--- `settled` needs VCOSEL of a range alone
+-- refusals 12 to 15 and the settings: of a range they need VCOSEL alone
 unfoldable pub settledFor : (odd : Bool) → PllRequest → (vcosel target m reference : ℕ) → Result PllSettings
 settledFor odd a vcosel target m reference =
     settled odd a (record { vcosel = vcosel; start = 0; end = 0; low = 0; high = 0 }) target m reference (target / reference)
@@ -39,9 +36,9 @@ abbrev pub multiplied : (reference n : ℕ) → Result Fraction → Multiplied
 multiplied reference n (refused x) = OutOfRange
 multiplied reference n (ok f) = By f (vcoBy f reference n)
 
--- the settings of the numbers chosen
-abbrev pub placedSettings : (p q r : ℕ) → Chosen → Fraction → PllSettings
-placedSettings p q r c f = record {
+-- One PLL: the settings of the numbers chosen
+abbrev pub placedSettings : PllRequest → Chosen → Fraction → PllSettings
+placedSettings a c f = record {
   vcosel = c .vcosel;
   target = c .target;
   m = c .m;
@@ -50,17 +47,17 @@ placedSettings p q r c f = record {
   n = c .n;
   fraction = f;
   vco = c .vco;
-  p = outputOf (c .target) (c .vco) (asked p);
-  q = outputOf (c .target) (c .vco) (asked q);
-  r = outputOf (c .target) (c .vco) (asked r);
+  p = outputOf (c .target) (c .vco) (a .p);
+  q = outputOf (c .target) (c .vco) (a .q);
+  r = outputOf (c .target) (c .vco) (a .r);
 }
 
--- refusals 14 and 15
-unfoldable pub placed : (odd : Bool) → (p q r : ℕ) → Chosen → Fraction → Result PllSettings
-placed odd p q r c f = allowedP odd (dividerP (c .target) (asked p)) >> ok (placedSettings p q r c f)
+-- refusals 14 and 15, and the settings
+unfoldable pub placed : (odd : Bool) → PllRequest → Chosen → Fraction → Result PllSettings
+placed odd a c f = allowedP odd (dividerP (c .target) (a .p)) >> ok (placedSettings a c f)
 
--- what it has to know
-pub record Placed (p q r : ℕ) (c : Chosen) : Type 0 where
-  pub hasP : HasDivider (c .target) p
-  pub hasQ : HasDivider (c .target) q
-  pub hasR : HasDivider (c .target) r
+-- refusals 14 and 15: what they have to know
+pub record Placed (a : PllRequest) (c : Chosen) : Type 0 where
+  pub hasP : HasDivider (c .target) (a .p)
+  pub hasQ : HasDivider (c .target) (a .q)
+  pub hasR : HasDivider (c .target) (a .r)

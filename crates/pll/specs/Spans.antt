@@ -1,47 +1,36 @@
--- For the private functions: a request as the code has it, the outputs of a PLL one after the other, and a VCO range.
+-- For the private functions: the outputs of a PLL one after the other, and a VCO range.
 use mathlib.Core.Path.{_≡_}
-use mathlib.Core.Bool.{Bool, true, false}
-use Prim.Native.Nat.{ℕ, zero, suc, _/_, _≤_, _<_, min, max}
+use mathlib.Core.Bool.{Bool, true, cond}
+use Prim.Native.Nat.{ℕ, _/_, _≤_, _<_, min, max}
 use lib.Dec.{ltb}
 use Rattle.types.specs.declared.Hertz.{Hertz}
 use Rattle.types.specs.declared.Hertz.the-variants.{Unset, Hz}
-use Rattle.types.specs.declared.Strategy.{Strategy}
-use Rattle.types.specs.declared.Strategy.the-variants.{Integer, Fractional}
 use Rattle.types.specs.declared.PllRequest.{PllRequest}
 use Rattle.rules.specs.Document01.OnePll.{noneZero, wanted, countedP, countedOutputs, least, largest, rangeOf}
 use Rattle.pll.specs.declared.outputs.Outputs.{Outputs}
+use Rattle.pll.specs.declared.outputs.Outputs.the-variants.{Nothing, Between}
 use Rattle.pll.specs.declared.vco.VcoRange.{VcoRange}
 
--- an output by its hertz, 0 for none
-abbrev pub asked : ℕ → Hertz
-asked zero = Unset
-asked (suc f) = Hz (suc f)
+-- One PLL, first point: min and max, the least and largest counted output; step 4: nothing where no output is requested
+unfoldable pub spanOf : (odd : Bool) → PllRequest → Outputs
+spanOf odd a = cond (wanted a) (Between (least (countedOutputs odd a)) (largest (countedOutputs odd a))) Nothing
 
--- a strategy as a test: One call, second paragraph (Integer, Fractional)
-abbrev pub isFractional : Strategy → Bool
-isFractional Integer = false
-isFractional Fractional = true
+-- One PLL, first point, one output after the other: min and max of those so far and one of so many hertz
+abbrev pub withHertz : Outputs → ℕ → Outputs
+withHertz Nothing h = Between h h
+withHertz (Between low most) h = Between (min low h) (max most h)
 
--- and back
-abbrev pub strategyOf : (fractional : Bool) → Strategy
-strategyOf true = Fractional
-strategyOf false = Integer
+-- One PLL, first point: those so far and the next, if it is requested
+abbrev pub withOutput : Outputs → Hertz → Outputs
+withOutput s Unset = s
+withOutput s (Hz h) = withHertz s h
 
--- the request of these numbers
-unfoldable pub requestOf : (fractional : Bool) → (p q r : ℕ) → PllRequest
-requestOf fractional p q r = record { strategy = strategyOf fractional; p = asked p; q = asked q; r = asked r }
+-- One PLL, first point: P, which comes first, as it counts
+abbrev pub spanOfP : (odd : Bool) → Hertz → Outputs
+spanOfP odd Unset = Nothing
+spanOfP odd (Hz h) = Between (countedP odd h) (countedP odd h)
 
--- the lesser of two outputs, 0 for none
-abbrev pub lesser : ℕ → ℕ → ℕ
-lesser zero b = b
-lesser (suc a) zero = suc a
-lesser (suc a) (suc b) = min (suc a) (suc b)
-
--- of P, Q and R
-unfoldable pub spanOf : (odd : Bool) → (p q r : ℕ) → Outputs
-spanOf odd p q r = record { least = lesser (lesser (countedP odd p) q) r; most = max (max (countedP odd p) q) r }
-
--- the outputs span from least to most, and 7, 8 and 9 do not fit
+-- step 4 and refusals 7, 8 and 9: an output is requested, the outputs span from low to most, and none of the three fits
 pub record Spanned (odd : Bool) (source : ℕ) (a : PllRequest) (low most : ℕ) : Type 0 where
   pub source-above : 1 ≤ source
   pub some : wanted a ≡ true
@@ -51,6 +40,6 @@ pub record Spanned (odd : Bool) (source : ℕ) (a : PllRequest) (low most : ℕ)
   pub near : most / 128 ≤ low
   pub below : most < 560_000_000
 
--- the range for outputs up to most, as the code has it
+-- One PLL, first point: the range for outputs up to most, as the code has it
 abbrev pub rangeFor : (most : ℕ) → VcoRange
 rangeFor most = record { medium = ltb most 420_000_000; vcosel = rangeOf most .vcosel; start = rangeOf most .start; end = rangeOf most .end }

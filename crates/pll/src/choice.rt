@@ -3,8 +3,8 @@ ghost use mathlib.Core.Path.{_≡_};
 ghost use Prim.Native.Nat.{_+_, _-_, _/_, _≤_, _<_, min};
 ghost use lib.IntN.{pos};
 ghost use Rattle.rules.specs.Document01.ChoiceOfM.{shortfallOf, chosenM};
-ghost use mathlib.Core.Bool.{true, false};
-ghost use Rattle.pll.specs.Search.{lowOf, highOf, numberOf, Over};
+ghost use Rattle.pll.specs.Search.{lowOf, highOf};
+use types::FoundM;
 
 // What the reference times N falls short of the target: a difference of two i32, and never below 0.
 fn shortfall(source: u32, target: u32, m: u32) -> i32
@@ -46,36 +46,26 @@ fn up_to_63(last: u32) -> u32
     63
 }
 
-// Whether the search goes on: not past the last M, and not once an M falls short by nothing, which no other betters.
-fn goes_on(m: u32, last: u32, best: u32, exact: bool) -> bool
-    ensures on { λ r. ⌜ (r ≡ true → m ≤ last) ⌝ }
-    ensures off { λ r. ⌜ (r ≡ false → Over m last best exact) ⌝ }
-{
-    if last < m {
-        return false;
-    }
-    if best == 0 {
-        return true;
-    }
-    !exact
-}
-
-// The search over all M from the first to the last that is admissible; 0 where there is none.
-pub fn search_m(source: u32, target: u32, medium: bool) -> u32
+// The search over all M from the first to the last that is admissible. The best so far is a number: the first M is there before the loop.
+pub fn search_m(source: u32, target: u32, medium: bool) -> FoundM
     requires { ⌜ (1 ≤ source) × (target < 2147483648) ⌝ }
-    ensures { λ r. ⌜ r ≡ numberOf (chosenM source target (lowOf medium) (highOf medium)) ⌝ }
+    ensures { λ r. ⌜ r ≡ chosenM source target (lowOf medium) (highOf medium) ⌝ }
 {
+    let first = first_m(medium, source);
     let last = last_m(medium, source);
-    let mut best: u32 = 0;
-    let mut least: i32 = 0;
-    let mut m = first_m(medium, source);
-    while goes_on(m, last, best, least == 0) {
+    if last < first {
+        return FoundM::Nothing;
+    }
+    let mut best = first;
+    let mut least = shortfall(source, target, first);
+    let mut m = first + 1;
+    while m <= last {
         let short = shortfall(source, target, m);
-        if best == 0 || short < least {
+        if short < least {
             best = m;
             least = short;
         }
         m += 1;
     }
-    best
+    FoundM::M(best)
 }

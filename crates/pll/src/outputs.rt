@@ -1,13 +1,11 @@
-// The outputs requested of a PLL, each as its hertz, 0 where it is not requested: the least and the largest as they count.
+// The outputs requested of a PLL: whether one is at 0 Hz, and the least and the largest as they count.
 ghost use mathlib.Core.Path.{_≡_};
-ghost use Prim.Native.Nat.{max};
-ghost use Rattle.rules.specs.Document01.Hertz.{notZero, hertzOr};
+ghost use Prim.Native.Nat.{min, max};
+ghost use Rattle.rules.specs.Document01.Hertz.{notZero};
 ghost use Rattle.rules.specs.Document01.OnePll as Rules;
-ghost use Rattle.pll.specs.Spans as Spans;
-ghost use Rattle.pll.specs.Spans.{isFractional, spanOf};
+ghost use Rattle.pll.specs.Spans.{spanOf, spanOfP, withHertz, withOutput};
 use types::Hertz;
 use types::PllRequest;
-use types::Strategy;
 
 fn not_zero(h: Hertz) -> bool
     ensures { λ r. ⌜ r ≡ notZero h ⌝ }
@@ -33,28 +31,10 @@ pub fn none_zero(a: PllRequest) -> bool
     false
 }
 
-pub fn hertz(h: Hertz) -> u32
-    ensures { λ r. ⌜ r ≡ hertzOr h 0 ⌝ }
-{
-    match h {
-        Hertz::Unset => 0,
-        Hertz::Hz(f) => f,
-    }
-}
-
-pub fn is_fractional(s: Strategy) -> bool
-    ensures { λ r. ⌜ r ≡ isFractional s ⌝ }
-{
-    match s {
-        Strategy::Integer => false,
-        Strategy::Fractional => true,
-    }
-}
-
-// The least output, 0 for none, and the largest. A doubled P may pass 32 bits.
-pub struct Outputs {
-    pub least: u64,
-    pub most: u64,
+// The least and the largest output, where one is requested. A doubled P may pass 32 bits.
+pub enum Outputs {
+    Nothing,
+    Between(u64, u64),
 }
 
 // P counts doubled where odd P is forbidden.
@@ -67,16 +47,9 @@ fn counted(odd: bool, f: u32) -> u64
     (f as u64) * 2
 }
 
-// The lesser of two outputs; 0 is none.
 fn lesser(a: u64, b: u64) -> u64
-    ensures { λ r. ⌜ r ≡ Spans.lesser a b ⌝ }
+    ensures { λ r. ⌜ r ≡ min a b ⌝ }
 {
-    if a == 0 {
-        return b;
-    }
-    if b == 0 {
-        return a;
-    }
     if b < a {
         return b;
     }
@@ -92,13 +65,47 @@ fn larger(a: u64, b: u64) -> u64
     a
 }
 
-// The least and the largest of P, Q, R.
-pub fn span_of(odd: bool, p: u32, q: u32, r: u32) -> Outputs
-    ensures { λ s. ⌜ s ≡ spanOf odd p q r ⌝ }
+// The outputs so far and one of so many hertz.
+fn with_hertz(s: Outputs, f: u64) -> Outputs
+    ensures { λ r. ⌜ r ≡ withHertz s f ⌝ }
 {
-    let first = counted(odd, p);
-    Outputs {
-        least: lesser(lesser(first, q as u64), r as u64),
-        most: larger(larger(first, q as u64), r as u64),
+    match s {
+        Outputs::Nothing => return Outputs::Between(f, f),
+        Outputs::Between(least, most) => {
+            return Outputs::Between(lesser(least, f), larger(most, f));
+        }
     }
+}
+
+// The outputs so far and the next, if it is requested.
+fn with_output(s: Outputs, h: Hertz) -> Outputs
+    ensures { λ r. ⌜ r ≡ withOutput s h ⌝ }
+{
+    match h {
+        Hertz::Unset => return s,
+        Hertz::Hz(f) => return with_hertz(s, f as u64),
+    }
+}
+
+// P alone, as it counts.
+fn span_of_p(odd: bool, p: Hertz) -> Outputs
+    ensures { λ r. ⌜ r ≡ spanOfP odd p ⌝ }
+{
+    match p {
+        Hertz::Unset => return Outputs::Nothing,
+        Hertz::Hz(f) => {
+            let h = counted(odd, f);
+            return Outputs::Between(h, h);
+        }
+    }
+}
+
+// The least and the largest of P, Q, R.
+pub fn span_of(odd: bool, a: PllRequest) -> Outputs
+    ensures { λ r. ⌜ r ≡ spanOf odd a ⌝ }
+{
+    let p = a.p;
+    let q = a.q;
+    let r = a.r;
+    with_output(with_output(span_of_p(odd, p), q), r)
 }

@@ -1,32 +1,32 @@
 // The settings of a PLL once its target and M are chosen, with refusals 12 to 15.
 ghost use mathlib.Core.Path.{_≡_};
 ghost use Prim.Native.Nat.{_*_, _<_};
+ghost use Rattle.rules.specs.Document01.Hertz.{hertzOr};
 ghost use Rattle.rules.specs.Document01.OnePll as Rules;
 ghost use Rattle.pll.specs.Answer.{pllAnswer};
-ghost use Rattle.pll.specs.Spans.{asked, strategyOf, requestOf};
-ghost use Rattle.pll.specs.Settle.{HasDivider, Settles, firstAsked, multiplied, settledFor, Placed, placed};
+ghost use Rattle.pll.specs.Settle.{HasDivider, Settles, multiplied, settledFor, Placed, placed};
 use crate::PllAnswer;
 use types::Fracn;
 use types::Fraction;
+use types::Hertz;
 use types::Pll;
 use types::PllOutput;
+use types::PllRequest;
 use types::PllSettings;
 use types::Refusal;
+use types::Strategy;
 
 // Refusals 12 and 13: N, FRACN and the VCO.
 pub fn settle(
     odd: bool,
-    fractional: bool,
-    p: u32,
-    q: u32,
-    r: u32,
+    request: PllRequest,
     vcosel: u32,
     target: u32,
     m: u32,
     reference: u32,
 ) -> PllAnswer
-    requires { ⌜ Settles p q r target reference ⌝ }
-    ensures { λ a. ⌜ a ≡ pllAnswer (Rules.running (settledFor odd (requestOf fractional p q r) vcosel target m reference)) ⌝ }
+    requires { ⌜ Settles request target reference ⌝ }
+    ensures { λ a. ⌜ a ≡ pllAnswer (Rules.running (settledFor odd request vcosel target m reference)) ⌝ }
 {
     let n = target / reference;
     if n < 4 {
@@ -35,8 +35,9 @@ pub fn settle(
     if 512 < n {
         return PllAnswer::Refused(Refusal::NOutside);
     }
-    let first = first_of(p, q, r);
-    match multiply(fractional, reference, n, target / first, first) {
+    let strategy = request.strategy;
+    let first = first_of(request);
+    match multiply(strategy, reference, n, target / first, first) {
         Multiplied::OutOfRange => return PllAnswer::Refused(Refusal::FracnOutside),
         Multiplied::By(fraction, vco) => {
             let c = Chosen {
@@ -47,7 +48,7 @@ pub fn settle(
                 n: n,
                 vco: vco,
             };
-            return place(odd, p, q, r, c, fraction);
+            return place(odd, request, c, fraction);
         }
     }
 }
@@ -68,43 +69,53 @@ pub enum Multiplied {
     OutOfRange,
 }
 
-// The first requested of P, Q, R.
-fn first_of(p: u32, q: u32, r: u32) -> u32
-    ensures { λ f. ⌜ f ≡ firstAsked p q r ⌝ }
+// The first requested of P, Q, R. The rules have 0 where none is requested; settle asks only where one is.
+fn first_of(a: PllRequest) -> u32
+    ensures { λ f. ⌜ f ≡ Rules.firstOf a ⌝ }
 {
-    if p != 0 {
-        return p;
+    let p = a.p;
+    let q = a.q;
+    let r = a.r;
+    hertz_or(p, hertz_or(q, hertz_or(r, 0)))
+}
+
+// The hertz that are requested, else other ones.
+fn hertz_or(h: Hertz, other: u32) -> u32
+    ensures { λ f. ⌜ f ≡ hertzOr h other ⌝ }
+{
+    match h {
+        Hertz::Unset => other,
+        Hertz::Hz(f) => f,
     }
-    if q != 0 {
-        return q;
-    }
-    r
 }
 
 // FRACN, if Fractional, and the VCO.
-fn multiply(fractional: bool, reference: u32, n: u32, divider: u32, output: u32) -> Multiplied
+fn multiply(strategy: Strategy, reference: u32, n: u32, divider: u32, output: u32) -> Multiplied
     requires { ⌜ reference * n < 4294967296 ⌝ }
-    ensures { λ r. ⌜ r ≡ multiplied reference n (Rules.fractionOf (strategyOf fractional) reference n divider output) ⌝ }
+    ensures { λ r. ⌜ r ≡ multiplied reference n (Rules.fractionOf strategy reference n divider output) ⌝ }
 {
-    if !fractional {
-        return Multiplied::By(Fraction::Whole, reference * n);
-    }
-    match fracn::fracn_for(reference, n, divider, output) {
-        Fracn::Value(f) => {
-            return Multiplied::By(
-                Fraction::Part(f as u32),
-                fracn::calc_vco_ck(reference, n, f),
-            );
-        }
-        Fracn::OutOfRange => return Multiplied::OutOfRange,
+    match strategy {
+        Strategy::Integer => return Multiplied::By(Fraction::Whole, reference * n),
+        Strategy::Fractional => match fracn::fracn_for(reference, n, divider, output) {
+            Fracn::Value(f) => {
+                return Multiplied::By(
+                    Fraction::Part(f as u32),
+                    fracn::calc_vco_ck(reference, n, f),
+                );
+            }
+            Fracn::OutOfRange => return Multiplied::OutOfRange,
+        },
     }
 }
 
 // Refusals 14 and 15, and the settings.
-fn place(odd: bool, p: u32, q: u32, r: u32, c: Chosen, fraction: Fraction) -> PllAnswer
-    requires { ⌜ Placed p q r c ⌝ }
-    ensures { λ a. ⌜ a ≡ pllAnswer (Rules.running (placed odd p q r c fraction)) ⌝ }
+fn place(odd: bool, request: PllRequest, c: Chosen, fraction: Fraction) -> PllAnswer
+    requires { ⌜ Placed request c ⌝ }
+    ensures { λ a. ⌜ a ≡ pllAnswer (Rules.running (placed odd request c fraction)) ⌝ }
 {
+    let p = request.p;
+    let q = request.q;
+    let r = request.r;
     let d = divider_p(c.target, p);
     if 128 < d {
         return PllAnswer::Refused(Refusal::PDividerAbove128);
@@ -130,13 +141,14 @@ fn place(odd: bool, p: u32, q: u32, r: u32, c: Chosen, fraction: Fraction) -> Pl
 }
 
 // P's divider; an unset P has none, and 2 stands for it.
-fn divider_p(target: u32, f: u32) -> u32
-    ensures { λ r. ⌜ r ≡ Rules.dividerP target (asked f) ⌝ }
+fn divider_p(target: u32, h: Hertz) -> u32
+    requires { ⌜ HasDivider target h ⌝ }
+    ensures { λ r. ⌜ r ≡ Rules.dividerP target h ⌝ }
 {
-    if f == 0 {
-        return 2;
+    match h {
+        Hertz::Unset => 2,
+        Hertz::Hz(f) => target / f,
     }
-    target / f
 }
 
 // RGE, by the reference in MHz: 1, 2, 4, 8.
@@ -156,13 +168,15 @@ fn rge_of(reference: u32) -> u32
 }
 
 // An output's divider and hertz.
-fn output_of(target: u32, vco: u32, f: u32) -> PllOutput
-    requires { ⌜ HasDivider target f ⌝ }
-    ensures { λ r. ⌜ r ≡ Rules.outputOf target vco (asked f) ⌝ }
+fn output_of(target: u32, vco: u32, h: Hertz) -> PllOutput
+    requires { ⌜ HasDivider target h ⌝ }
+    ensures { λ r. ⌜ r ≡ Rules.outputOf target vco h ⌝ }
 {
-    if f == 0 {
-        return PllOutput::Off;
+    match h {
+        Hertz::Unset => return PllOutput::Off,
+        Hertz::Hz(f) => {
+            let d = target / f;
+            return PllOutput::On(d, vco / d);
+        }
     }
-    let d = target / f;
-    PllOutput::On(d, vco / d)
 }

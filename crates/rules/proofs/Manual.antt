@@ -1,4 +1,5 @@
 pub mod Paths
+pub mod Codes
 pub mod Chains
 pub mod Firm
 pub mod Worked

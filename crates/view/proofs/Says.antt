@@ -1,18 +1,16 @@
 -- What a line says a clock comes from, and what divides it, are the steps of the clock tree (Manual/Tree), for any bank.
 use mathlib.Core.Path.{_≡_, refl, ap}
-use mathlib.Core.Bool.{true, false}
+use mathlib.Core.Bool.{Bool, true, false, cond}
 use mathlib.Core.List.{List, [], _∷_}
 use mathlib.Core.Logic.{_⊎_, inl, inr}
-use Prim.Native.Nat.{ℕ, zero, suc, _+_, _*_}
+use Prim.Native.Nat.{ℕ, zero, suc, _+_, _*_, _/_}
 use native.Mathlib.Omega.{arith}
-use lib.Dec.{leb}
 use lib.ListN.{getD}
 use borrow.Author.Tests.{ne-eqb}
-use Rattle.laws.proofs.Tests.{by-test}
 use Rattle.rules.specs.Document01.Fields
 use Rattle.rules.specs.Manual.Path.{PllName, pll1, pll2, pll3}
 use Rattle.rules.specs.Manual.Tree
-use Rattle.rules.specs.Manual.Tree.{Oscillator, Chain, none, Output, P, Q, R, word, pllWord, number, enable, gated, over, timerBy, pathOf}
+use Rattle.rules.specs.Manual.Tree.{Oscillator, Chain, none, Output, P, Q, R, word, pllWord, number, enable, gated, over, among, timerBy, pathOf}
 use Rattle.exact.specs.Exact.{clocksBy, pathBy}
 use Rattle.view.specs.View.{swClock, perClock, mco1Clock, mco2Clock, timerDivisor, fromOf, divisorOf}
 
@@ -22,7 +20,7 @@ outputAt j P = 17 + 3 * number j
 outputAt j Q = 18 + 3 * number j
 outputAt j R = 19 + 3 * number j
 
--- a timer's step: AHB divided, or AHB as it is where its line says / 1
+-- a timer's step: AHB divided, none by 0, or AHB as it is where its line says / 1
 abbrev pub TimerSays : (path ahb : Chain) → (divisor : ℕ) → Type 0
 TimerSays path ahb d = (path ≡ over ahb d) ⊎ ((d ≡ 1) × (path ≡ ahb))
 
@@ -45,11 +43,20 @@ pub record LinesSay (b : List ℕ) (fed : Oscillator) : Type 0 where
       (j : PllName) (o : Output) →
       pathBy b fed (outputAt j o) ≡ gated (pllWord b j Fields.ON) (gated (pllWord b j (enable o)) (over (Tree.vcoOf b fed j) (divisorOf b (outputAt j o))))
 
+none-by-0 : (c : Chain) → none ≡ over c 0
+none-by-0 none = refl
+none-by-0 (Tree.along p) = refl
+
+-- AHB by some PPREs, divided by others, none by any other
+choice-says : (one some : Bool) (d : ℕ) (ahb : Chain) → TimerSays (cond one ahb (cond some (over ahb d) none)) ahb (cond one 1 (cond some d 0))
+choice-says true some d ahb = inr (refl, refl)
+choice-says false true d ahb = inl refl
+choice-says false false d ahb = inl (none-by-0 ahb)
+
 timer-says : (t ppre : ℕ) (ahb : Chain) → TimerSays (timerBy t ppre ahb) ahb (timerDivisor t ppre)
-timer-says zero ppre ahb = by-test (leb 4 ppre) (λ (e : leb 4 ppre ≡ true). rw e (inl refl)) (λ (f : leb 4 ppre ≡ false). rw f (inr (refl, refl)))
+timer-says zero ppre ahb = choice-says (among (1 ∷ 2 ∷ []) ppre) (among (4 ∷ 8 ∷ 16 ∷ []) ppre) (ppre / 2) ahb
 timer-says (suc t) ppre ahb =
-    let n = ne-eqb (suc t) 0 (omega arith) in
-    by-test (leb 8 ppre) (λ (e : leb 8 ppre ≡ true). rw (n, e) (inl refl)) (λ (f : leb 8 ppre ≡ false). rw (n, f) (inr (refl, refl)))
+    rw (ne-eqb (suc t) 0 (omega arith)) (choice-says (among (1 ∷ 2 ∷ 4 ∷ []) ppre) (among (8 ∷ 16 ∷ []) ppre) (ppre / 4) ahb)
 
 module _ (b : List ℕ) (fed : Oscillator) where
   abbrev of : Tree.Clock → Chain

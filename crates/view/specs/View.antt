@@ -7,7 +7,7 @@ use lib.ListN.{getD, replicate}
 use Rattle.types.specs.declared.Hertz.{Hertz}
 use Rattle.rules.specs.Document01.Fields
 use Rattle.rules.specs.Document01.Entries.{bit}
-use Rattle.rules.specs.Manual.Tree.{word}
+use Rattle.rules.specs.Manual.Tree.{word, among}
 use Rattle.rules.specs.Demands.Readings.{fedBy}
 use Rattle.exact.specs.Exact.{pathBy, readingOf}
 use Rattle.exact.specs.declared.Reading.{Reading}
@@ -43,9 +43,12 @@ fromOf b k =
     (cond (eqb k 16) (mco2Clock (word b Fields.MCO2SEL)) (cond (leb k 25) (26 + (k - 17) / 3) 29)))))))
 
 -- ---- what divides it; 0 for nothing
--- a timer's one division, by TIMPRE and PPRE
+-- a timer's one division, by TIMPRE and PPRE; 0 for a PPRE other than 1, 2, 4, 8, 16
 abbrev pub timerDivisor : (timpre ppre : ℕ) → ℕ
-timerDivisor t p = cond (eqb t 0) (cond (leb 4 p) (p / 2) 1) (cond (leb 8 p) (p / 4) 1)
+timerDivisor t p =
+    cond (eqb t 0)
+    (cond (among (1 ∷ 2 ∷ []) p) 1 (cond (among (4 ∷ 8 ∷ 16 ∷ []) p) (p / 2) 0))
+    (cond (among (1 ∷ 2 ∷ 4 ∷ []) p) 1 (cond (among (8 ∷ 16 ∷ []) p) (p / 4) 0))
 
 -- HPRE and the PPREs stand one behind the other; P, Q and R of a PLL two words apart, as dividers less 1
 unfoldable pub divisorOf : (bank : List ℕ) → (k : ℕ) → ℕ

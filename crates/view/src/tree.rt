@@ -89,15 +89,23 @@ fn timer_divisor(timpre: u32, ppre: u32) -> u64
     ensures { λ r. ⌜ r ≡ timerDivisor timpre ppre ⌝ }
 {
     if timpre == 0 {
-        if 4 <= ppre {
-            return ppre as u64 / 2;
+        match ppre {
+            1 => return 1,
+            2 => return 1,
+            4 => return 2,
+            8 => return 4,
+            16 => return 8,
+            _ => return 0,
         }
-        return 1;
     }
-    if 8 <= ppre {
-        return ppre as u64 / 4;
+    match ppre {
+        1 => 1,
+        2 => 1,
+        4 => 1,
+        8 => 2,
+        16 => 4,
+        _ => 0,
     }
-    1
 }
 
 // What divides clock k.

@@ -1,13 +1,13 @@
 -- What a chain ends with, step by step down the tree.
 use mathlib.Core.Path.{_≡_, refl, sym, _∙_, ap, subst}
-use mathlib.Core.Bool.{Bool, true, false, cond}
+use mathlib.Core.Bool.{true}
 use mathlib.Core.List.{List, [], _∷_}
 use Prim.Native.Nat.{ℕ, zero, suc, _+_, _*_, _/_, _≤_, _<_}
 use native.Mathlib.Omega.{arith}
-use lib.Dec.{leb}
-use borrow.Author.Tests.{leb-true}
+use Rattle.rules.specs.Document01.Buses.{timerOf}
 use Rattle.rules.specs.Manual.Path.{PllName, whole, part, Path, direct, through, Via, noPll, by, pllOn, floored, extend, Readings}
-use Rattle.rules.specs.Manual.Tree.{Chain, none, along, Oscillator, off, runs, fromOscillator, gated, over, vcoBy, timerBy}
+use Rattle.rules.specs.Manual.Tree.{Chain, none, along, Oscillator, off, runs, fromOscillator, gated, over, among, vcoBy, timerBy}
+use Rattle.rules.proofs.Manual.Codes.{by-codes, by-timer}
 use Rattle.rules.proofs.Manual.Paths.{Sound, floored-extend, sound-extend, readings-of}
 
 -- the chain is a path with no divisor of 0 whose divisions end with r
@@ -39,16 +39,16 @@ unfolding floored
 gives-vco j h zero n f a b = absurd (omega arith)
 gives-vco j h (suc m) n f a b = record { path = through j h (suc m) (whole n) []; is = refl; sound = (a, b, tt); floor = refl }
 
--- a timer under TIMPRE 0
-abbrev pub timerHertz : ℕ → ℕ → ℕ
-timerHertz ppre ahb = cond (leb 4 ppre) (ahb / (ppre / 2)) ahb
+-- each PPRE that there is
+abbrev pub ppres : List ℕ
+ppres = 1 ∷ 2 ∷ 4 ∷ 8 ∷ 16 ∷ []
 
-pub gives-timer : {c : Chain} {r : ℕ} (ppre : ℕ) → Gives c r → Gives (timerBy 0 ppre c) (timerHertz ppre r)
-gives-timer {c} {r} ppre g = go (leb 4 ppre) refl
-  where
-    go : (t : Bool) → leb 4 ppre ≡ t → Gives (cond t (over c (ppre / 2)) c) (cond t (r / (ppre / 2)) r)
-    go true e = gives-over (ppre / 2) (let h = leb-true 4 ppre e in omega arith) g
-    go false e = g
+-- a timer under TIMPRE 0 ends with what document 01's step 7 says
+pub gives-timer : {c : Chain} {r : ℕ} (ppre : ℕ) → among ppres ppre ≡ true → Gives c r → Gives (timerBy 0 ppre c) (timerOf r ppre)
+unfolding timerOf
+gives-timer {c} {r} ppre h g =
+    by-codes (λ n. Gives (timerBy 0 n c) (timerOf r n)) ppres ppre h
+    (g, (g, (gives-over 2 (omega arith) g, (gives-over 4 (omega arith) g, (gives-over 8 (omega arith) g, tt)))))
 
 -- both readings of a clock whose chain ends with r
 pub gives-readings : {c : Chain} {r : ℕ} (g : Gives c r) → Readings (g .path) r
@@ -90,10 +90,5 @@ comes-vco j (runs h) zero n e f = none-comes (by j)
 comes-vco j (runs h) (suc m) n zero f = along-comes (by j) (through j h (suc m) (whole n) []) refl
 comes-vco j (runs h) (suc m) n (suc e) f = along-comes (by j) (through j h (suc m) (part n f) []) refl
 
-choice-comes : {v : Via} {c : Chain} (t : Bool) (d : ℕ) → Comes v c → Comes v (cond t (over c d) c)
-choice-comes true d h = comes-over d h
-choice-comes false d h = h
-
 pub comes-timer : {v : Via} {c : Chain} (t ppre : ℕ) → Comes v c → Comes v (timerBy t ppre c)
-comes-timer zero ppre h = choice-comes (leb 4 ppre) (ppre / 2) h
-comes-timer (suc t) ppre h = choice-comes (leb 8 ppre) (ppre / 4) h
+comes-timer {v} t ppre h = by-timer (Comes v) t ppre h (comes-over (ppre / 2) h) (comes-over (ppre / 4) h) (none-comes v)

@@ -1,15 +1,13 @@
 -- Every path that the tree gives, from any bank, has no divisor of 0, so the laws of paths hold of it.
 use mathlib.Core.Path.{_≡_, refl, sym, _∙_, ap, subst}
-use mathlib.Core.Bool.{Bool, true, false, cond}
 use mathlib.Core.List.{List, [], _∷_}
 use Prim.Native.Nat.{ℕ, zero, suc, _+_, _*_, _/_, _≤_, _<_}
 use native.Mathlib.Omega.{arith}
-use lib.Dec.{leb}
 use lib.ListN.{getD}
-use borrow.Author.Tests.{leb-true}
 use Rattle.rules.specs.Manual.Path.{PllName, pll1, pll2, pll3, whole, part, Path, direct, through, Via, noPll, by, pllOn, floored, extend, Readings}
 use Rattle.rules.specs.Manual.Tree
 use Rattle.rules.specs.Manual.Tree.{Chain, none, along, Oscillator, off, runs, Output, P, Q, R, Clock, sys, hclk, pclk1, pclk2, pclk3, timx, timy, per, hsi, csi, hsi48, lsi, hse, mco1, mco2, output, fromOscillator, gated, over, vcoBy, timerBy, word, pllWord, divider, enable, pathOf}
+use Rattle.rules.proofs.Manual.Codes.{by-timer}
 use Rattle.rules.proofs.Manual.Paths.{Sound, floored-extend, sound-extend, readings-of}
 
 -- no divisor of 0 on a chain's path
@@ -41,13 +39,8 @@ vco-firm j (runs x) zero n e f h = none-firm
 vco-firm j (runs x) (suc m) n zero f h = along-firm (through j x (suc m) (whole n) []) (omega arith, h, tt)
 vco-firm j (runs x) (suc m) n (suc e) f h = along-firm (through j x (suc m) (part n f) []) (omega arith, h, tt)
 
-choice-firm : (t : Bool) {c : Chain} (d : ℕ) → Firm c → Firm (cond t (over c d) c)
-choice-firm true {c} d h = over-firm c d h
-choice-firm false d h = h
-
 timer-firm : (t ppre : ℕ) {c : Chain} → Firm c → Firm (timerBy t ppre c)
-timer-firm zero ppre h = choice-firm (leb 4 ppre) (ppre / 2) h
-timer-firm (suc t) ppre h = choice-firm (leb 8 ppre) (ppre / 4) h
+timer-firm t ppre {c} h = by-timer Firm t ppre h (over-firm c (ppre / 2) h) (over-firm c (ppre / 4) h) none-firm
 
 -- what a selector picks of chains that are firm
 data AllFirm : List Chain → Type 0 where

@@ -1,4 +1,4 @@
--- The buses, the timers, the peripheral clock and the MCOs that the rules choose: divisors of at least 1, and clocks that are floors.
+-- The buses, the peripheral clock and the MCOs that the rules choose: divisors of at least 1, PPREs that registers hold, and clocks that are floors.
 use mathlib.Core.Path.{_≡_, refl, sym, _∙_, ap, subst}
 use mathlib.Core.Bool.{Bool, true, false, cond, not, _&&_, _||_}
 use Prim.Native.Nat.{ℕ, _+_, _*_, _/_, _≤_, _<_}
@@ -10,9 +10,10 @@ use Rattle.types.specs.declared.Hertz.the-variants.{Unset, Hz}
 use Rattle.types.specs.declared.Refusal.the-variants.{BusZero, AhbZero, McoZero, McoRatio}
 use Rattle.rules.specs.Document01.Result.{Result, refused, ok, _>>=_, _>>_, require}
 use Rattle.rules.specs.Document01.Hertz.{ratioOf, hertzOr, notZero}
-use Rattle.rules.specs.Document01.Buses.{Selected, csiOrHsi, peripheralOf, hpreOf, ppreOf, Bus, hpreFor, ahbOf, ppreFor, apbOf, timerOf}
+use Rattle.rules.specs.Document01.Buses.{Selected, csiOrHsi, peripheralOf, hpreOf, ppreOf, Bus, hpreFor, ahbOf, ppreFor, apbOf}
 use Rattle.rules.specs.Document01.Mco.{Mco, mcoOf}
-use Rattle.rules.proofs.Manual.Chains.{timerHertz}
+use Rattle.rules.specs.Manual.Tree.{among}
+use Rattle.rules.proofs.Manual.Chains.{ppres}
 use Rattle.rules.proofs.Document01.Results.{tested-ok}
 use Rattle.laws.proofs.Tests.{and-left, either}
 
@@ -23,10 +24,10 @@ hpre-pos ratio =
     either F (leb ratio 1) _ _ (omega arith) (either F (leb ratio 2) _ _ (omega arith) (either F (leb ratio 5) _ _ (omega arith) (either F (leb ratio 11) _ _ (omega arith)
     (either F (leb ratio 39) _ _ (omega arith) (either F (leb ratio 95) _ _ (omega arith) (either F (leb ratio 191) _ _ (omega arith) (either F (leb ratio 383) _ _ (omega arith) (omega arith))))))))
 
--- what holds of 1, 2, 4, 8 and 16 holds of PPRE
-ppre-among : (F : ℕ → Type 0) (ratio : ℕ) → F 1 → F 2 → F 4 → F 8 → F 16 → F (ppreOf ratio)
-ppre-among F ratio a b c d e =
-    either F (leb ratio 1) _ _ a (either F (leb ratio 2) _ _ b (either F (leb ratio 5) _ _ c (either F (leb ratio 11) _ _ d e)))
+ppre-among : (ratio : ℕ) → among ppres (ppreOf ratio) ≡ true
+ppre-among ratio =
+    let F : ℕ → Type 0 = λ n. among ppres n ≡ true in
+    either F (leb ratio 1) _ _ refl (either F (leb ratio 2) _ _ refl (either F (leb ratio 5) _ _ refl (either F (leb ratio 11) _ _ refl refl)))
 
 -- ---- a bus of the clock before it
 pub record GoodBus (before : ℕ) (b : Bus) : Type 0 where
@@ -43,15 +44,10 @@ ahb-good system h b e =
     let is : record { pre = pre; clock = system / pre } ≡ b = cc in
     rw (← is) (record { above = hpre-pos (ratioOf system (hertzOr h system)); hertz = refl })
 
--- an APB bus, with its timers
+-- an APB bus
 pub record GoodApb (ahb : ℕ) (b : Bus) : Type 0 where
-  pub above : 1 ≤ b .pre
+  pub held : among ppres (b .pre) ≡ true
   pub hertz : b .clock ≡ ahb / b .pre
-  pub timer : timerOf ahb (b .pre) ≡ timerHertz (b .pre) ahb
-
-timer-is : (ahb ratio : ℕ) → timerOf ahb (ppreOf ratio) ≡ timerHertz (ppreOf ratio) ahb
-unfolding timerOf
-timer-is ahb ratio = ppre-among (λ n. timerOf ahb n ≡ timerHertz n ahb) ratio refl refl refl refl refl
 
 pub apb-good : (ahb : ℕ) (h : Hertz) (b : Bus) → apbOf ahb h ≡ ok b → GoodApb ahb b
 unfolding apbOf
@@ -60,7 +56,7 @@ apb-good ahb h b e =
     let e₁ = tested-ok (notZero h) BusZero (ok (record { pre = pre; clock = ahb / pre })) b e in
     let last : ok (record { pre = pre; clock = ahb / pre }) ≡ ok b = e₁ .1 in
     let is : record { pre = pre; clock = ahb / pre } ≡ b = cc in
-    rw (← is) (record { above = ppre-among (λ n. 1 ≤ n) (ratioOf ahb (hertzOr h ahb)) (omega arith) (omega arith) (omega arith) (omega arith) (omega arith); hertz = refl; timer = timer-is ahb (ratioOf ahb (hertzOr h ahb)) })
+    rw (← is) (record { held = ppre-among (ratioOf ahb (hertzOr h ahb)); hertz = refl })
 
 -- ---- the peripheral clock
 pub data GoodPeripheral (hse : Hertz) (s : Selected) : Type 0 where

@@ -25,13 +25,15 @@ use Rattle.rules.specs.Document01.Result.{Result, refused, ok}
 use Rattle.rules.specs.Document01.Hertz.{isSet, hertzOr}
 use Rattle.rules.specs.Document01.Request.{pllAt, sourceOf, fromHse1, fromHse2}
 use Rattle.rules.specs.Document01.OnePll.{pClock, qClock, clockOf}
+use Rattle.rules.specs.Document01.Buses.{timerOf}
 use Rattle.rules.specs.Document01.Mco.{mco1Input, mco2Input, mco1Code, mco2Code, planned}
 use Rattle.rules.specs.Document01.Plan.{srcOf, swOf}
 use Rattle.rules.specs.Document01.Entries.{pllIn}
 use Rattle.rules.specs.Manual.Path.{PllName, pll1, pll2, pll3, Via, noPll, by, Path, pllOn}
 use Rattle.rules.specs.Manual.Tree
-use Rattle.rules.specs.Manual.Tree.{Oscillator, off, runs, Chain, none, along, Output, P, Q, R, Clock, sys, hclk, pclk1, pclk2, pclk3, timx, timy, per, hsi, csi, hsi48, lsi, hse, mco1, mco2, output, number, divider, enable, word, pllWord, fromOscillator, switched, gated, over, vcoBy, timerBy, pathOf}
-use Rattle.rules.proofs.Manual.Chains.{Gives, gives-oscillator, gives-over, gives-vco, gives-timer, gives-readings, timerHertz, Comes, none-comes, comes-oscillator, comes-over, comes-gated, comes-vco, comes-timer}
+use Rattle.rules.specs.Manual.Tree.{Oscillator, off, runs, Chain, none, along, Output, P, Q, R, Clock, sys, hclk, pclk1, pclk2, pclk3, timx, timy, per, hsi, csi, hsi48, lsi, hse, mco1, mco2, output, number, divider, enable, word, pllWord, fromOscillator, switched, gated, over, among, vcoBy, timerBy, pathOf}
+use Rattle.rules.proofs.Manual.Codes.{by-codes}
+use Rattle.rules.proofs.Manual.Chains.{Gives, gives-oscillator, gives-over, gives-vco, ppres, gives-timer, gives-readings, Comes, none-comes, comes-oscillator, comes-over, comes-gated, comes-vco, comes-timer}
 use Rattle.rules.specs.Demands.Report.{pllClocks, reported, outputOf, hertzOf}
 use Rattle.rules.specs.Demands.Readings.{sysVia, mco1Via, mco2Via, viaOf, started, steady, Covered, fedBy, TreeReads, TwoReadings}
 use Rattle.rules.proofs.Readings.Own.{dividerWord, enableBit, fracenBit}
@@ -41,6 +43,9 @@ use Rattle.rules.proofs.Readings.Consistent.{StartedInteger, Steady, st
 -- ---- small facts
 less-more : (n : ℕ) → 1 ≤ n → n - 1 + 1 ≡ n
 less-more n h = omega arith
+
+ppre-pos : (n : ℕ) → among ppres n ≡ true → 1 ≤ n
+ppre-pos n h = by-codes (λ n. 1 ≤ n) ppres n h (omega arith, (omega arith, (omega arith, (omega arith, (omega arith, tt)))))
 
 same : {c : Chain} {r s : ℕ} → s ≡ r → Gives c r → Gives c s
 same {c} e g = rw e g
@@ -178,12 +183,12 @@ module _ (q : Request) (p : Plan) (good : Consistent q p) where
   unfolding Tree.ahbOf
   ahb-gives st = rw (core-words p .hpre) (same (good .hclk) (gives-over (p .hpre) (good .hpre) (sys-gives st)))
 
-  apb-gives : (f ppre pclk : ℕ) → word b f ≡ ppre → 1 ≤ ppre → pclk ≡ p .hclk / ppre → Steady q p (sysVia p) → Gives (over (Tree.ahbOf b fed) (word b f)) pclk
-  apb-gives f ppre pclk w h e st = rw w (same e (gives-over ppre h (ahb-gives st)))
+  apb-gives : (f ppre pclk : ℕ) → word b f ≡ ppre → among ppres ppre ≡ true → pclk ≡ p .hclk / ppre → Steady q p (sysVia p) → Gives (over (Tree.ahbOf b fed) (word b f)) pclk
+  apb-gives f ppre pclk w h e st = rw w (same e (gives-over ppre (ppre-pos ppre h) (ahb-gives st)))
 
-  timer-gives : (f ppre tim : ℕ) → word b f ≡ ppre → tim ≡ timerHertz ppre (p .hclk) → Steady q p (sysVia p)
+  timer-gives : (f ppre tim : ℕ) → word b f ≡ ppre → among ppres ppre ≡ true → tim ≡ timerOf (p .hclk) ppre → Steady q p (sysVia p)
       → Gives (timerBy (word b 66) (word b f) (Tree.ahbOf b fed)) tim
-  timer-gives f ppre tim w e st = rw (w, core-words p .timpre) (same e (gives-timer ppre (ahb-gives st)))
+  timer-gives f ppre tim w h e st = rw (w, core-words p .timpre) (same e (gives-timer ppre h (ahb-gives st)))
 
   -- ---- the peripheral clock
   fed-gives : (x : Hertz) (h : ℕ) → x ≡ Hz h → Gives (fromOscillator (fedBy x)) h
@@ -255,8 +260,8 @@ module _ (q : Request) (p : Plan) (good : Consistent q p) where
   clock-gives pclk1 r e st = reads _ r e (apb-gives 62 (p .ppre1) (p .pclk1) (core-words p .ppre1) (good .ppre1) (good .pclk1) st)
   clock-gives pclk2 r e st = reads _ r e (apb-gives 63 (p .ppre2) (p .pclk2) (core-words p .ppre2) (good .ppre2) (good .pclk2) st)
   clock-gives pclk3 r e st = reads _ r e (apb-gives 64 (p .ppre3) (p .pclk3) (core-words p .ppre3) (good .ppre3) (good .pclk3) st)
-  clock-gives timx r e st = reads _ r e (timer-gives 62 (p .ppre1) (p .timx) (core-words p .ppre1) (good .timx) st)
-  clock-gives timy r e st = reads _ r e (timer-gives 63 (p .ppre2) (p .timy) (core-words p .ppre2) (good .timy) st)
+  clock-gives timx r e st = reads _ r e (timer-gives 62 (p .ppre1) (p .timx) (core-words p .ppre1) (good .ppre1) (good .timx) st)
+  clock-gives timy r e st = reads _ r e (timer-gives 63 (p .ppre2) (p .timy) (core-words p .ppre2) (good .ppre2) (good .timy) st)
   clock-gives per r e st = reads _ r e (per-from (good .per))
   clock-gives hsi r e st = reads _ r e (rw hsi-is (same (good .hsi) (gives-oscillator 32_000_000)))
   clock-gives csi r e st = reads _ r e (rw csi-is (same (good .csi) (gives-oscillator 4_000_000)))

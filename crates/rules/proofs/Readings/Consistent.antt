@@ -1,4 +1,5 @@
--- What the rules settle of a plan and its clocks need: dividers of at least 1, and hertz that are the floors of the numbers chosen.
+-- What the rules settle of a plan and its clocks need: dividers of at least 1, PPREs that registers hold, and hertz that are the floors of the
+-- numbers chosen.
 use mathlib.Core.Path.{_≡_, refl, sym}
 use mathlib.Core.Bool.{Bool, true, false, not, _||_}
 use Prim.Native.Nat.{ℕ, _+_, _*_, _/_, _≤_, _<_}
@@ -18,15 +19,16 @@ use Rattle.rules.specs.Document01.Result.{Result, ok}
 use Rattle.rules.specs.Document01.Hertz.{isSet}
 use Rattle.rules.specs.Document01.Request.{pllAt, sourceOf, fromHse1, fromHse2}
 use Rattle.rules.specs.Document01.OnePll.{clockOf, pClock, qClock}
+use Rattle.rules.specs.Document01.Buses.{timerOf}
 use Rattle.rules.specs.Document01.Mco.{mco1Input, mco2Input, mco1Code, mco2Code}
 use Rattle.rules.specs.Document01.Plan.{srcOf, swOf}
 use Rattle.rules.specs.Document01.Entries.{pllIn}
 use Rattle.rules.specs.Manual.Path.{PllName, Via, noPll, by}
-use Rattle.rules.specs.Manual.Tree.{Output, P, Q, R, output, number}
+use Rattle.rules.specs.Manual.Tree.{Output, P, Q, R, output, number, among}
 use Rattle.rules.specs.Demands.Report.{reported, hertzOf}
 use Rattle.rules.specs.Demands.Readings.{started, isInteger, steady}
 use Rattle.laws.proofs.Tests.{never, and-left, and-right}
-use Rattle.rules.proofs.Manual.Chains.{timerHertz}
+use Rattle.rules.proofs.Manual.Chains.{ppres}
 
 -- an output's settings, and what a PLL reports of it
 abbrev pub settingOf : Output → PllSettings → PllOutput
@@ -101,14 +103,14 @@ pub record Consistent (q : Request) (p : Plan) : Type 0 where
   pub system : System q p
   pub hpre : 1 ≤ p .hpre
   pub hclk : p .hclk ≡ p .sys / p .hpre
-  pub ppre1 : 1 ≤ p .ppre1
-  pub ppre2 : 1 ≤ p .ppre2
-  pub ppre3 : 1 ≤ p .ppre3
+  pub ppre1 : among ppres (p .ppre1) ≡ true
+  pub ppre2 : among ppres (p .ppre2) ≡ true
+  pub ppre3 : among ppres (p .ppre3) ≡ true
   pub pclk1 : p .pclk1 ≡ p .hclk / p .ppre1
   pub pclk2 : p .pclk2 ≡ p .hclk / p .ppre2
   pub pclk3 : p .pclk3 ≡ p .hclk / p .ppre3
-  pub timx : p .timx ≡ timerHertz (p .ppre1) (p .hclk)
-  pub timy : p .timy ≡ timerHertz (p .ppre2) (p .hclk)
+  pub timx : p .timx ≡ timerOf (p .hclk) (p .ppre1)
+  pub timy : p .timy ≡ timerOf (p .hclk) (p .ppre2)
   pub per : Peripheral q p
   pub stated : isSet (q .hse) || not (fromHse1 (q .mco1source) || fromHse2 (q .mco2source)) ≡ true
   pub mco1sel : p .mco1sel ≡ mco1Code (q .mco1source)

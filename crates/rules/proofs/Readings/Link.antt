@@ -22,7 +22,7 @@ use Rattle.rules.specs.Document01.Result.{Result, refused, ok, _>>=_, _>
 use Rattle.rules.specs.Document01.Hertz.{isSet, hertzOr}
 use Rattle.rules.specs.Document01.Request.{pllAt, limited, fromHse1, fromHse2, stated, pll1Asked, pll2Asked, sourceOf, systemOf, needsPll1, like, withP, forSystemClock, sourced}
 use Rattle.rules.specs.Document01.OnePll.{pllOf, pClock, qClock}
-use Rattle.rules.specs.Document01.Buses.{peripheralOf, ahbOf, apbOf, timerOf, Bus}
+use Rattle.rules.specs.Document01.Buses.{peripheralOf, ahbOf, apbOf, Bus}
 use Rattle.rules.specs.Document01.Mco.{Mco, mco1Input, mco2Input, mcoOf}
 use Rattle.rules.specs.Document01.Plan.{Plls, thirdOf, pllsOf, hsiReady, systemFrom, Buses, busesOf, Mcos, mcosOf, srcOf, swOf, planWith, chosenPlan, answered, answerTo}
 use Rattle.rules.specs.Document01.Entries.{pllIn, planEntries, entriesOf}
@@ -229,14 +229,14 @@ module _ (q : Request) (c : ChipState) (l : Plls) (b : Buses) (m : Mcos) (g : Go
     system = system-by (needsPll1 q) refl;
     hpre = u .ahb .above;
     hclk = u .ahb .hertz;
-    ppre1 = u .apb1 .above;
-    ppre2 = u .apb2 .above;
-    ppre3 = u .apb3 .above;
+    ppre1 = u .apb1 .held;
+    ppre2 = u .apb2 .held;
+    ppre3 = u .apb3 .held;
     pclk1 = u .apb1 .hertz;
     pclk2 = u .apb2 .hertz;
     pclk3 = u .apb3 .hertz;
-    timx = u .apb1 .timer;
-    timy = u .apb2 .timer;
+    timx = refl;
+    timy = refl;
     per = peripheral-by (peripheral-good (q .peripheral) (q .hse));
     stated = g .stated;
     mco1sel = refl;

@@ -92,26 +92,34 @@ unfolding byTree
 by-pre = refl
 
 -- timer x by PPRE1 and timer y by PPRE2, each 1, 2, 4, 8, 16: under TIMPRE 0 AHB / (PPRE / 2) from PPRE 4 up, under TIMPRE 1 AHB / (PPRE / 4)
--- from 8 up, else AHB
+-- from 8 up, else AHB; none by 0, 3, 5, 32, which no register holds
+abbrev words : List ℕ
+words = 1 ∷ 2 ∷ 4 ∷ 8 ∷ 16 ∷ 0 ∷ 3 ∷ 5 ∷ 32 ∷ []
+
 abbrev timers : (timpre : ℕ) → List Tree.Chain
 timers timpre =
-    map (λ v. Tree.pathOf (set (set bank 66 timpre) 62 v) (Tree.runs 25_000_000) Tree.timx) (1 ∷ 2 ∷ 4 ∷ 8 ∷ 16 ∷ [])
-    ++ map (λ v. Tree.pathOf (set (set bank 66 timpre) 63 v) (Tree.runs 25_000_000) Tree.timy) (1 ∷ 2 ∷ 4 ∷ 8 ∷ 16 ∷ [])
+    map (λ v. Tree.pathOf (set (set bank 66 timpre) 62 v) (Tree.runs 25_000_000) Tree.timx) words
+    ++ map (λ v. Tree.pathOf (set (set bank 66 timpre) 63 v) (Tree.runs 25_000_000) Tree.timy) words
 
 pub timpre-0 : timers 0
     ≡ from 32_000_000 (2 ∷ []) ∷ from 32_000_000 (2 ∷ []) ∷ from 32_000_000 (2 ∷ 2 ∷ []) ∷ from 32_000_000 (2 ∷ 4 ∷ []) ∷ from 32_000_000 (2 ∷ 8 ∷ [])
-    ∷ from 32_000_000 (2 ∷ []) ∷ from 32_000_000 (2 ∷ []) ∷ from 32_000_000 (2 ∷ 2 ∷ []) ∷ from 32_000_000 (2 ∷ 4 ∷ []) ∷ from 32_000_000 (2 ∷ 8 ∷ []) ∷ []
+    ∷ Tree.none ∷ Tree.none ∷ Tree.none ∷ Tree.none
+    ∷ from 32_000_000 (2 ∷ []) ∷ from 32_000_000 (2 ∷ []) ∷ from 32_000_000 (2 ∷ 2 ∷ []) ∷ from 32_000_000 (2 ∷ 4 ∷ []) ∷ from 32_000_000 (2 ∷ 8 ∷ [])
+    ∷ Tree.none ∷ Tree.none ∷ Tree.none ∷ Tree.none ∷ []
 unfolding byTree
 timpre-0 = refl
 
 pub timpre-1 : timers 1
     ≡ from 32_000_000 (2 ∷ []) ∷ from 32_000_000 (2 ∷ []) ∷ from 32_000_000 (2 ∷ []) ∷ from 32_000_000 (2 ∷ 2 ∷ []) ∷ from 32_000_000 (2 ∷ 4 ∷ [])
-    ∷ from 32_000_000 (2 ∷ []) ∷ from 32_000_000 (2 ∷ []) ∷ from 32_000_000 (2 ∷ []) ∷ from 32_000_000 (2 ∷ 2 ∷ []) ∷ from 32_000_000 (2 ∷ 4 ∷ []) ∷ []
+    ∷ Tree.none ∷ Tree.none ∷ Tree.none ∷ Tree.none
+    ∷ from 32_000_000 (2 ∷ []) ∷ from 32_000_000 (2 ∷ []) ∷ from 32_000_000 (2 ∷ []) ∷ from 32_000_000 (2 ∷ 2 ∷ []) ∷ from 32_000_000 (2 ∷ 4 ∷ [])
+    ∷ Tree.none ∷ Tree.none ∷ Tree.none ∷ Tree.none ∷ []
 unfolding byTree
 timpre-1 = refl
 
--- ---- oscillators: 64,000,000 / HSIDIV; none with its ON at 0
-pub by-hsidiv : map (at 77 Tree.hsi) (1 ∷ 2 ∷ 4 ∷ 8 ∷ 3 ∷ 0 ∷ []) ≡ oscillator 64_000_000 ∷ oscillator 32_000_000 ∷ oscillator 16_000_000 ∷ oscillator 8_000_000 ∷ Tree.none ∷ Tree.none ∷ []
+-- ---- oscillators: HSI is 64,000,000 / HSIDIV for HSIDIV 1, 2, 4, 8, none by 0, 3, 5, 16; none with its ON at 0
+pub by-hsidiv : map (at 77 Tree.hsi) (1 ∷ 2 ∷ 4 ∷ 8 ∷ 0 ∷ 3 ∷ 5 ∷ 16 ∷ [])
+    ≡ oscillator 64_000_000 ∷ oscillator 32_000_000 ∷ oscillator 16_000_000 ∷ oscillator 8_000_000 ∷ Tree.none ∷ Tree.none ∷ Tree.none ∷ Tree.none ∷ []
 unfolding byTree
 by-hsidiv = refl
 

@@ -1,9 +1,11 @@
 -- The clock tree: from the words of a bank and the request's HSE hertz, each clock's path or none.
--- Document 01, 'The clock tree'; selectors as in RM0492 and RM0481; words and codes as in docs/CODES.md.
-use mathlib.Core.Bool.{cond}
+-- Document 01, 'The clock tree'; selectors as in RM0492 and RM0481; words and codes as in docs/CODES.md. The manuals are not at hand: a selector's codes
+-- are those that document 01 names and the Rust's register crate has. With a manual, compare SW, MCO1SEL, MCO2SEL and TIMPRE in RCC_CFGR1, PLLxSRC
+-- in RCC_PLLxCFGR, CKPERSEL in RCC_CCIPR5, HSIDIV in RCC_CR, and the figure of the clock tree.
+use mathlib.Core.Bool.{Bool, false, cond, _||_}
 use mathlib.Core.List.{List, [], _∷_}
-use Prim.Native.Nat.{ℕ, zero, suc, _+_, _*_, _/_}
-use lib.Dec.{eqb, leb}
+use Prim.Native.Nat.{ℕ, zero, suc, _+_, _/_}
+use lib.Dec.{eqb}
 use lib.ListN.{getD}
 use Rattle.rules.specs.Document01.Fields
 use Rattle.rules.specs.Document01.Fields.{ofPll}
@@ -65,9 +67,14 @@ over none d = none
 over (along p) zero = none
 over (along p) (suc d) = along (extend p (suc d))
 
--- HSI: 64,000,000 / HSIDIV, which is whole for each HSIDIV that there is; none by any other
+-- whether a word is one of these codes
+abbrev pub among : List ℕ → ℕ → Bool
+among [] w = false
+among (c ∷ cs) w = eqb w c || among cs w
+
+-- HSI: 64,000,000 / HSIDIV for HSIDIV 1, 2, 4, 8; none by any other
 abbrev pub hsiBy : ℕ → Oscillator
-hsiBy div = cond (eqb (64_000_000 / div * div) 64_000_000) (runs (64_000_000 / div)) off
+hsiBy div = cond (among (1 ∷ 2 ∷ 4 ∷ 8 ∷ []) div) (runs (64_000_000 / div)) off
 
 -- VCO: the source / M × N; under FRACEN × (N + FRACN / 8192). None with M at 0
 abbrev pub vcoBy : PllName → Oscillator → ℕ → ℕ → ℕ → ℕ → Chain
@@ -76,10 +83,11 @@ vcoBy j (runs h) zero n fracen fracn = none
 vcoBy j (runs h) (suc m) n zero fracn = along (through j h (suc m) (whole n) [])
 vcoBy j (runs h) (suc m) n (suc e) fracn = along (through j h (suc m) (part n fracn) [])
 
--- a timer's one division after AHB, by TIMPRE and PPRE
+-- a timer's one division after AHB: under TIMPRE 0 AHB / (PPRE / 2) from PPRE 4 up, under TIMPRE 1 AHB / (PPRE / 4) from 8 up, else AHB.
+-- None by a PPRE other than 1, 2, 4, 8, 16
 abbrev pub timerBy : ℕ → ℕ → Chain → Chain
-timerBy zero ppre ahb = cond (leb 4 ppre) (over ahb (ppre / 2)) ahb
-timerBy (suc t) ppre ahb = cond (leb 8 ppre) (over ahb (ppre / 4)) ahb
+timerBy zero ppre ahb = cond (among (1 ∷ 2 ∷ []) ppre) ahb (cond (among (4 ∷ 8 ∷ 16 ∷ []) ppre) (over ahb (ppre / 2)) none)
+timerBy (suc t) ppre ahb = cond (among (1 ∷ 2 ∷ 4 ∷ []) ppre) ahb (cond (among (8 ∷ 16 ∷ []) ppre) (over ahb (ppre / 4)) none)
 
 -- ---- where the words stand
 abbrev pub word : List ℕ → ℕ → ℕ

@@ -1,10 +1,7 @@
 -- `exact::oscillators::hsi` meets its contract.
 use denote.Ref.{now}
-use native.Mathlib.Nat.{div-mul-le-self}
-use native.Mathlib.Omega.{arith}
-use borrow.Author.Tests.{eq-eqb, ne-eqb}
 use Rattle.rules.specs.Manual.Tree.{word, hsiOf}
-use Rattle.exact.proofs.Chains.{never-runs}
+use Rattle.exact.proofs.Chains.{hsi-off, never-runs}
 use borrow.Author.Needs.{needs}
 use Rattle.exact.proofs.oscillators.hsi.Statement.{statement}
 use Rattle.exact.proofs.oscillators.hsi.Tie as tie
@@ -12,35 +9,51 @@ use Rattle.exact.proofs.oscillators.hsi.Tie as tie
 word-requires : tie.Need-word-requires
 word-requires c κs = search needs
 
-cast-div : tie.Need-cast-div
-cast-div c = search needs
-
-returns : tie.Need-returns
-unfolding hsiOf
-returns c fed =
-    let b = now (c .before .before .before .args .bank) in
-    rw (← c .before .word .ensures, c .if1 .taken) (never-runs (word b 76))
-
-div-hertz : tie.Need-div-hertz
-div-hertz c = search needs
-
-mul-if2 : tie.Need-mul-if2
-mul-if2 c = record { fits = omega (arith, div-mul-le-self 64_000_000 (c .before .word .result)) }
-
 fixed-requires : tie.Need-fixed-requires
 fixed-requires c κs = search needs
 
+fixed-requires-2 : tie.Need-fixed-requires-2
+fixed-requires-2 c κs = search needs
+
+fixed-requires-3 : tie.Need-fixed-requires-3
+fixed-requires-3 c κs = search needs
+
+fixed-requires-4 : tie.Need-fixed-requires-4
+fixed-requires-4 c κs = search needs
+
+returns : tie.Need-returns
+unfolding hsiOf
+returns c fed = rw (← c .before .before .word .ensures, c .before .match .keys1) (c .fixed .ensures)
+
 returns-2 : tie.Need-returns-2
 unfolding hsiOf
-returns-2 c fed = rw (← c .before .before .before .word .ensures, eq-eqb _ _ (c .before .if2 .taken)) (c .fixed .ensures)
+returns-2 c fed = rw (← c .before .before .word .ensures, c .before .match .keys2) (c .fixed2 .ensures)
 
 returns-3 : tie.Need-returns-3
 unfolding hsiOf
-returns-3 c fed =
-    let b = now (c .before .before .before .before .args .bank) in
-    rw (← c .before .before .word .ensures, ne-eqb _ _ (c .if2 .left)) (never-runs (word b 76))
+returns-3 c fed = rw (← c .before .before .word .ensures, c .before .match .keys3) (c .fixed3 .ensures)
+
+returns-4 : tie.Need-returns-4
+unfolding hsiOf
+returns-4 c fed = rw (← c .before .before .word .ensures, c .before .match .keys4) (c .fixed4 .ensures)
+
+returns-5 : tie.Need-returns-5
+unfolding hsiOf
+returns-5 c fed =
+    let w = c .before .word in
+    rw (← w .ensures, hsi-off (w .result) (c .match .rest)) (never-runs (word (now (c .before .before .before .args .bank)) 76))
 
 pub hsi-spec : {M : Type 1} → statement M
 hsi-spec =
     tie.close
-    (tie.spec word-requires cast-div returns div-hertz mul-if2 fixed-requires returns-2 returns-3)
+    (tie.spec
+    word-requires
+    fixed-requires
+    fixed-requires-2
+    fixed-requires-3
+    fixed-requires-4
+    returns
+    returns-2
+    returns-3
+    returns-4
+    returns-5)

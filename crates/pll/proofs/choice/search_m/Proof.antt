@@ -1,108 +1,133 @@
 -- `pll::choice::search_m` meets its contract.
-use Rattle.pll.proofs.Search.{low-pos, high-pos, before-first, after-last, between, best-same, best-exact, Held, held-first, held-less, held-not, held-number, held-fits}
-use Rattle.pll.specs.Search.{lowOf, highOf, numberOf}
-use Rattle.rules.proofs.Document01.ChoiceOfM.{best-none, best-more, range-le}
-use Rattle.rules.specs.Document01.ChoiceOfM.{inRange, bestTo, chosenM}
+use Rattle.pll.proofs.Search.{low-pos, high-pos, before-first, after-last, all-out, between, best-same, first-held, less-held, still-held, held-fits}
+use Rattle.pll.specs.Search.{lowOf, highOf}
+use Rattle.rules.proofs.Document01.ChoiceOfM.{best-none, range-le}
+use Rattle.rules.specs.Document01.ChoiceOfM.{inRange, shortfallOf, bestTo, chosenM}
 use Rattle.laws.proofs.Numbers.{signed-less-held}
-use Rattle.types.specs.declared.FoundM.the-variants.{Nothing}
+use Rattle.types.specs.declared.FoundM.the-variants.{M}
 use borrow.Author.Needs.{needs}
-use borrow.Author.Tests.{eqb-true}
 use native.Mathlib.Omega.{arith}
-use Prim.Native.Nat.{ℕ, _+_, _-_, _/_, _≤_, _<_, min}
+use Prim.Native.Nat.{ℕ, _+_, _-_, _/_, _≤_, _<_}
 use mathlib.Core.Logic.{⊎-elim}
-use mathlib.Core.Bool.{true}
-use mathlib.Core.Path.{_≡_, refl, sym, _∙_, ap}
+use mathlib.Core.Bool.{Bool, true}
+use mathlib.Core.Path.{_≡_, sym, _∙_}
 use Rattle.pll.proofs.choice.search_m.Statement.{statement}
 use Rattle.pll.proofs.choice.search_m.Tie as tie
-use Rattle.pll.proofs.choice.search_m.Reads as reads
-use Rattle.pll.proofs.choice.search_m.Lts as lts
-use Rattle.pll.proofs.choice.last_m.Reads as last-m-reads
-use Rattle.pll.proofs.choice.shortfall.Reads as shortfall-reads
 
 abbrev Inv-loop : tie.InvT-loop
-Inv-loop source target medium last best₀ least₀ m₀ best least m = (last ≡ min (source / lowOf medium) 63) × ((source - 1) / highOf medium < m) × Held source target (bestTo source target (lowOf medium) (highOf medium) (min (m - 1) 63)) best least
+Inv-loop source target medium first last best₀ least₀ m₀ best least m =
+    ((source - 1) / highOf medium < m)
+    × (m ≤ 64)
+    × (bestTo source target (lowOf medium) (highOf medium) (m - 1) ≡ M best)
+    × (least ≡ shortfallOf source target best)
 
 abbrev μ-loop : tie.MeasureT-loop
-μ-loop source target medium last best₀ least₀ m₀ best least m = 64 - m
+μ-loop source target medium first last best₀ least₀ m₀ best least m = 64 - m
 
--- an M that the loop reaches is in range
-module _ (c : tie.Then1 Inv-loop μ-loop) where
+-- an M from the first to the last is in range
+inside : (medium : Bool) (source m : ℕ) → 1 ≤ source → (source - 1) / highOf medium < m → m ≤ source / lowOf medium → inRange source (lowOf medium) (highOf medium) m ≡ true
+inside medium source m o f t = between source (lowOf medium) (highOf medium) o (low-pos medium) (high-pos medium) m f t
+
+-- the first is
+module _ (c : tie.Else1 Inv-loop μ-loop) where
   abbrev start : tie.Start Inv-loop μ-loop
-  start = c .before .before .before .before .before
+  start = c .before .before .before
 
-  abbrev here : c .before .before .loop .m ≤ c .before .before .before .before .last-m .result
-  here = c .before .goes-on .ensures .0 (c .if1 .taken)
+  first-in : inRange (start .args .source) (lowOf (start .args .medium)) (highOf (start .args .medium)) (c .before .before .first-m .result) ≡ true
+  first-in =
+      let f = c .before .before .first-m .ensures in
+      let l = c .before .last-m .ensures in
+      inside (start .args .medium) _ _ (start .pre .0) (omega arith) (omega arith)
 
-  reached : inRange (start .args .source) (lowOf (start .args .medium)) (highOf (start .args .medium)) (c .before .before .loop .m) ≡ true
-  reached =
-      let i = c .before .before .loop .inv in
-      between _ _ _ (start .pre .0) (low-pos (start .args .medium)) (high-pos (start .args .medium)) _ (i .1) (omega (arith, here))
+-- and so is each that the loop reaches
+module _ (c : tie.In-loop Inv-loop μ-loop) where
+  abbrev begin : tie.Start Inv-loop μ-loop
+  begin = start (c .before .before .before)
 
-last-m-requires : tie.Need-last-m-requires Inv-loop μ-loop
-last-m-requires c κs = search needs
+  next-in : inRange (begin .args .source) (lowOf (begin .args .medium)) (highOf (begin .args .medium)) (c .before .loop .m) ≡ true
+  next-in =
+      let l = c .before .before .before .before .last-m .ensures in
+      let h = c .loop-test .taken in
+      inside (begin .args .medium) _ _ (begin .pre .0) (c .before .loop .inv .0) (omega arith)
 
 first-m-requires : tie.Need-first-m-requires Inv-loop μ-loop
 first-m-requires c κs = search needs
 
-loop-holds : tie.Need-loop-holds Inv-loop μ-loop
-loop-holds c = let a = c .before .before .args in
-    let p = c .before .before .pre in
-    let f = c .first-m .ensures in
-    let n : bestTo (a .source) (a .target) (lowOf (a .medium)) (highOf (a .medium)) (min (c .first-m .result - 1) 63) ≡ Nothing =
-    best-same _ _ _ _ 0 _ (omega arith) (λ k l m. before-first _ (lowOf (a .medium)) _ (p .0) k (omega arith)) ∙ best-none _ _ _ _ in
-    (c .before .last-m .ensures, omega arith, rw n refl)
-
-goes-on-requires : tie.Need-goes-on-requires Inv-loop μ-loop
-goes-on-requires c κs = search needs
-
-shortfall-requires : tie.Need-shortfall-requires Inv-loop μ-loop
-shortfall-requires c κs = let k = start c in
-    let i = c .before .before .loop .inv in
-    (omega arith, range-le _ _ _ (low-pos (k .args .medium)) _ (reached c), k .pre .1)
-
-add-m : tie.Need-add-m Inv-loop μ-loop
-add-m c = omega (arith, here (c .before .before), c .before .before .before .before .loop .inv .0)
-
-loop-less : tie.Need-loop-less Inv-loop μ-loop
-loop-less c = omega (arith, here (c .before .before), c .before .before .before .before .loop .inv .0)
-
-loop-again : tie.Need-loop-again Inv-loop μ-loop
-loop-again c = let s = start (c .before .before) in
-    let l = c .before .before .before .before .loop in
-    let h = here (c .before .before) in
-    let i = l .inv in
-    let a = s .args in
-    let ir = reached (c .before .before) in
-    let f = bestTo (a .source) (a .target) (lowOf (a .medium)) (highOf (a .medium)) (l .m - 1) in
-    let now : min (l .m - 1) 63 ≡ l .m - 1 = omega arith in
-    let next : min (l .m + 1 - 1) 63 ≡ l .m + 1 - 1 = omega arith in
-    let held : Held (a .source) (a .target) f (l .best) (l .least) = rw now at (i .2) in
-    let short = c .before .shortfall in (
-      i .0,
-      omega arith,
-      rw (next, best-more _ _ _ _ (l .m) (omega arith))
-          (⊎-elim
-          (λ w. rw (w .1, w .2, short .ensures)
-          (⊎-elim (λ v. held-first _ _ _ _ f _ _ _ (omega arith) held ir (v .taken))
-          (λ v. held-less _ _ _ _ f _ _ _ (omega arith) held ir (signed-less-held (record { sfits = short .ok }) (held-fits _ _ (s .pre .1) f _ _ held (v .0 .left)) (short .ensures) (v .1 .taken)))
-          (w .0 .came)))
-          (λ w. rw (w .2, w .3) (held-not _ _ _ _ f _ _ _ held ir (w .0 .left) (signed-less-held (record { sfits = short .ok }) (held-fits _ _ (s .pre .1) f _ _ held (w .0 .left)) (short .ensures) (w .1 .left))))
-          (c .if2 .came)),
-    )
+last-m-requires : tie.Need-last-m-requires Inv-loop μ-loop
+last-m-requires c κs = search needs
 
 returns : tie.Need-returns Inv-loop μ-loop
 unfolding chosenM
-returns c =
-    let s = c .before .before .before .before .before in
+returns c = let a = c .before .before .before .args in
+    let f = c .before .before .first-m .ensures in
+    let l = c .before .last-m .ensures in
+    let h = c .if1 .taken in
+    sym (best-same _ _ _ _ 0 63 (omega arith) (λ k b t. all-out _ _ _ (c .before .before .before .pre .0) (low-pos (a .medium)) (omega arith) k t) ∙ best-none _ _ _ _)
+
+shortfall-requires : tie.Need-shortfall-requires Inv-loop μ-loop
+shortfall-requires c κs = let s = start c in
+    let f = c .before .before .first-m .ensures in
+    (omega arith, range-le _ _ _ (low-pos (s .args .medium)) _ (first-in c), s .pre .1)
+
+add-m : tie.Need-add-m Inv-loop μ-loop
+add-m c = let l = c .before .before .last-m .ensures in let h = c .before .if1 .left in omega arith
+
+loop-holds : tie.Need-loop-holds Inv-loop μ-loop
+loop-holds c = let e = c .before in
+    let s = start e in
+    let f = e .before .before .first-m .ensures in
+    let l = e .before .last-m .ensures in
+    let h = e .if1 .left in (
+      omega arith,
+      omega arith,
+      first-held _ _ _ _ _ (omega arith) (λ k t. before-first _ _ _ (s .pre .0) k (omega arith)) (first-in e),
+      rw (c .shortfall .ensures),
+    )
+
+shortfall-requires-2 : tie.Need-shortfall-requires-2 Inv-loop μ-loop
+shortfall-requires-2 c κs = let s = begin c in
+    let i = c .before .loop .inv .0 in
+    (omega arith, range-le _ _ _ (low-pos (s .args .medium)) _ (next-in c), s .pre .1)
+
+add-m-2 : tie.Need-add-m-2 Inv-loop μ-loop
+add-m-2 c = let i = c .before .before .before .loop .inv .1 in omega arith
+
+loop-less : tie.Need-loop-less Inv-loop μ-loop
+loop-less c = let k = c .before .before in let l = k .before .before .before .before .last-m .ensures in let h = k .loop-test .taken in omega arith
+
+loop-again : tie.Need-loop-again Inv-loop μ-loop
+loop-again c = let k = c .before .before in
+    let s = begin k in
     let a = s .args in
-    let l = c .before .before .loop in
-    let i = l .inv in
-    let n = min (l .m - 1) 63 in
-    let e : bestTo (a .source) (a .target) (lowOf (a .medium)) (highOf (a .medium)) 63 ≡ bestTo (a .source) (a .target) (lowOf (a .medium)) (highOf (a .medium)) n =
-    ⊎-elim (λ h. best-same _ _ _ _ _ 63 (omega arith) (λ k b t. after-last _ _ _ (low-pos (a .medium)) k (omega arith)))
-    (λ h. best-exact _ _ _ _ n (l .best) (l .least) (omega arith) (i .2) (h .0) (eqb-true (l .least) 0 (h .1)))
-    (c .before .goes-on .ensures .1 (c .if1 .left)) in
-    held-number (a .source) (a .target) (bestTo (a .source) (a .target) (lowOf (a .medium)) (highOf (a .medium)) n) (l .best) (l .least) (i .2) ∙ sym (ap numberOf e)
+    let v = k .before .loop in
+    let i = v .inv in
+    let last = k .before .before .before .before .last-m .ensures in
+    let h = k .loop-test .taken in
+    let short = c .before .shortfall2 in
+    let fits = held-fits (a .source) (a .target) (v .best) (v .least) (s .pre .1) (i .3) in
+    let held : (bestTo (a .source) (a .target) (lowOf (a .medium)) (highOf (a .medium)) (v .m + 1 - 1) ≡ M (c .if2 .best)) × (c .if2 .least ≡ shortfallOf (a .source) (a .target) (c .if2 .best)) =
+    ⊎-elim
+    (λ w. (
+      rw (w .1) (less-held _ _ _ _ _ _ _ (omega arith) (i .2) (i .3) (next-in k) (signed-less-held (record { sfits = short .ok }) fits (short .ensures) (w .0 .taken))),
+      rw (w .1, w .2, short .ensures),
+    ))
+    (λ w. (
+      rw (w .1) (still-held _ _ _ _ _ _ _ (omega arith) (i .2) (i .3) (next-in k) (signed-less-held (record { sfits = short .ok }) fits (short .ensures) (w .0 .left))),
+      rw (w .1, w .2) (i .3),
+    ))
+    (c .if2 .came) in
+    (omega arith, omega arith, held .0, held .1)
+
+returns-2 : tie.Need-returns-2 Inv-loop μ-loop
+unfolding chosenM
+returns-2 c =
+    let b = c .before in
+    let a = start (b .before .before) .args in
+    let l = b .before .before .before .last-m .ensures in
+    let h = c .loop-test .left in
+    let i = b .loop .inv in
+    let m = i .1 in
+    sym (best-same _ _ _ _ (b .loop .m - 1) 63 (omega arith) (λ k g t. after-last _ _ _ (low-pos (a .medium)) k (omega arith)) ∙ i .2)
 
 pub search-m-spec : {M : Type 1} → statement M
 search-m-spec =
@@ -110,12 +135,14 @@ search-m-spec =
     (tie.spec
     Inv-loop
     μ-loop
-    last-m-requires
     first-m-requires
-    loop-holds
-    goes-on-requires
+    last-m-requires
+    returns
     shortfall-requires
     add-m
+    loop-holds
+    shortfall-requires-2
+    add-m-2
     loop-less
     loop-again
-    returns)
+    returns-2)

@@ -1,31 +1,21 @@
-use Rattle.pll.specs.Spans.{spanOf}
+-- `pll::outputs::span_of` meets its contract.
+use Rattle.pll.proofs.Spanning.{span-is}
 use borrow.Author.Needs.{needs}
 use Rattle.pll.proofs.outputs.span_of.Statement.{statement}
 use Rattle.pll.proofs.outputs.span_of.Tie as tie
-use Rattle.pll.proofs.outputs.span_of.Reads as reads
-use Rattle.pll.proofs.outputs.span_of.Lts as lts
-use Rattle.pll.proofs.outputs.counted.Reads as counted-reads
-use Rattle.pll.proofs.outputs.lesser.Reads as lesser-reads
-use Rattle.pll.proofs.outputs.larger.Reads as larger-reads
 
-counted-requires : tie.Need-counted-requires
-counted-requires c κs = search needs
+span-of-p-requires : tie.Need-span-of-p-requires
+span-of-p-requires c κs = search needs
 
-lesser-requires : tie.Need-lesser-requires
-lesser-requires c κs = search needs
+with-output-requires : tie.Need-with-output-requires
+with-output-requires c κs = search needs
 
-lesser-requires-2 : tie.Need-lesser-requires-2
-lesser-requires-2 c κs = search needs
-
-larger-requires : tie.Need-larger-requires
-larger-requires c κs = search needs
-
-larger-requires-2 : tie.Need-larger-requires-2
-larger-requires-2 c κs = search needs
+with-output-requires-2 : tie.Need-with-output-requires-2
+with-output-requires-2 c κs = search needs
 
 returns : tie.Need-returns
-unfolding spanOf
-returns c = let m = c .before .before in rw (m .lesser2 .ensures) (rw (c .larger2 .ensures, c .before .larger .ensures, m .before .lesser .ensures, m .before .before .counted .ensures))
+returns c = rw (c .with-output2 .ensures, c .before .with-output .ensures, c .before .before .span-of-p .ensures) (span-is _ (c .before .before .before .args .a))
 
 pub span-of-spec : {M : Type 1} → statement M
-span-of-spec = tie.close (tie.spec counted-requires lesser-requires lesser-requires-2 larger-requires larger-requires-2 returns)
+span-of-spec =
+    tie.close (tie.spec span-of-p-requires with-output-requires with-output-requires-2 returns)

@@ -1,18 +1,22 @@
-use Rattle.pll.proofs.Spanning.{asked-set}
+-- `pll::settle::divider_p` meets its contract.
 use borrow.Author.Needs.{needs}
 use Rattle.pll.proofs.settle.divider_p.Statement.{statement}
 use Rattle.pll.proofs.settle.divider_p.Tie as tie
-use Rattle.pll.proofs.settle.divider_p.Reads as reads
-use Rattle.pll.proofs.settle.divider_p.Lts as lts
 
-returns : tie.Need-returns
-returns c = rw (c .if1 .taken)
+enum-told : tie.Need-enum-told
+enum-told c = search needs
+
+enum-known-h : tie.Need-enum-known-h
+enum-known-h c = search needs
 
 div-result : tie.Need-div-result
-div-result c = search needs
+div-result c = (rw (c .before .h .given .1) at (c .before .before .before .pre)) .0
+
+returns : tie.Need-returns
+returns c = search needs
 
 returns-2 : tie.Need-returns-2
-returns-2 c = rw (asked-set _ (c .if1 .left))
+returns-2 c = rw (c .before .h .given .1)
 
 pub divider-p-spec : {M : Type 1} → statement M
-divider-p-spec = tie.close (tie.spec returns div-result returns-2)
+divider-p-spec = tie.close (tie.spec enum-told enum-known-h div-result returns returns-2)

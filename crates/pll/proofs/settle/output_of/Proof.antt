@@ -1,21 +1,25 @@
-use Rattle.pll.proofs.Spanning.{asked-set}
+-- `pll::settle::output_of` meets its contract.
 use borrow.Author.Needs.{needs}
 use Rattle.pll.proofs.settle.output_of.Statement.{statement}
 use Rattle.pll.proofs.settle.output_of.Tie as tie
-use Rattle.pll.proofs.settle.output_of.Reads as reads
-use Rattle.pll.proofs.settle.output_of.Lts as lts
+
+enum-told : tie.Need-enum-told
+enum-told c = search needs
 
 returns : tie.Need-returns
-returns c = rw (c .if1 .taken)
+returns c = search needs
+
+enum-known-h : tie.Need-enum-known-h
+enum-known-h c = search needs
 
 div-d : tie.Need-div-d
-div-d c = search needs
+div-d c = (rw (c .before .h .given .1) at (c .before .before .before .pre)) .0
 
 div-t6 : tie.Need-div-t6
-div-t6 c = c .before .pre (c .if1 .left)
+div-t6 c = (rw (c .before .h .given .1) at (c .before .before .before .pre)) .1
 
 returns-2 : tie.Need-returns-2
-returns-2 c = rw (asked-set _ (c .if1 .left))
+returns-2 c = rw (c .before .h .given .1)
 
 pub output-of-spec : {M : Type 1} → statement M
-output-of-spec = tie.close (tie.spec returns div-d div-t6 returns-2)
+output-of-spec = tie.close (tie.spec enum-told returns enum-known-h div-d div-t6 returns-2)

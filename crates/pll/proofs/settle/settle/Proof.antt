@@ -1,27 +1,20 @@
+-- `pll::settle::settle` meets its contract.
 use Rattle.pll.proofs.Settled.{n-low, n-high, fracn-out, fracn-in}
-use Rattle.pll.specs.Settle.{multiplied}
-use Rattle.rules.specs.Document01.OnePll.{fractionOf}
 use native.Mathlib.Nat.{mul-div-le}
 use native.Mathlib.Omega.{arith}
-use Prim.Native.Nat.{ℕ, _/_}
-use mathlib.Core.Path.{_≡_, refl, sym, ap, _∙_}
+use mathlib.Core.Path.{refl, sym, _∙_}
 use borrow.Author.Needs.{needs}
 use Rattle.pll.proofs.settle.settle.Statement.{statement}
 use Rattle.pll.proofs.settle.settle.Tie as tie
-use Rattle.pll.proofs.settle.settle.Reads as reads
-use Rattle.pll.proofs.settle.settle.Lts as lts
-use Rattle.pll.proofs.settle.first_of.Reads as first-of-reads
-use Rattle.pll.proofs.settle.multiply.Reads as multiply-reads
-use Rattle.pll.proofs.settle.place.Reads as place-reads
 
 div-n : tie.Need-div-n
 div-n c = search needs
 
 returns : tie.Need-returns
-returns c = n-low _ _ _ _ _ _ _ _ _ _ refl (c .if1 .taken)
+returns c = n-low _ _ _ _ _ _ _ refl (c .if1 .taken)
 
 returns-2 : tie.Need-returns-2
-returns-2 c = n-high _ _ _ _ _ _ _ _ _ _ refl (c .before .if1 .left) (c .if2 .taken)
+returns-2 c = n-high _ _ _ _ _ _ _ refl (c .before .if1 .left) (c .if2 .taken)
 
 first-of-requires : tie.Need-first-of-requires
 first-of-requires c κs = search needs
@@ -45,14 +38,14 @@ returns-3 : tie.Need-returns-3
 returns-3 c = let m = c .before .before in
     let k = m .before in
     let e = k .before in
-    fracn-out _ _ _ _ _ _ _ _ _ _ refl (e .before .if1 .left) (e .if2 .left) (rw (← k .first-of .ensures) (sym (m .multiply .ensures) ∙ c .enum-told .given .1))
+    fracn-out _ _ _ _ _ _ _ refl (e .before .if1 .left) (e .if2 .left) (rw (← k .first-of .ensures) (sym (m .multiply .ensures) ∙ c .enum-told .given .1))
 
 returns-4 : tie.Need-returns-4
 returns-4 c = let b = c .before .before in
     let m = b .before .before in
     let k = m .before in
     let e = k .before in
-    c .place .ensures ∙ fracn-in _ _ _ _ _ _ _ _ _ _ refl (e .before .if1 .left) (e .if2 .left) _ _ (rw (← k .first-of .ensures) (sym (m .multiply .ensures) ∙ b .fraction .given .1))
+    c .place .ensures ∙ fracn-in _ _ _ _ _ _ _ refl (e .before .if1 .left) (e .if2 .left) _ _ (rw (← k .first-of .ensures) (sym (m .multiply .ensures) ∙ b .fraction .given .1))
 
 pub settle-spec : {M : Type 1} → statement M
 settle-spec = tie.close (tie.spec div-n returns returns-2 first-of-requires div-multiply multiply-requires enum-told returns-3 enum-known-fraction place-requires returns-4)
