@@ -47,6 +47,7 @@ fn counted(odd: bool, f: u32) -> u64
     (f as u64) * 2
 }
 
+// The lesser of two outputs, for min.
 fn lesser(a: u64, b: u64) -> u64
     ensures { λ r. ⌜ r ≡ min a b ⌝ }
 {
@@ -56,6 +57,7 @@ fn lesser(a: u64, b: u64) -> u64
     a
 }
 
+// The larger of two outputs, for max.
 fn larger(a: u64, b: u64) -> u64
     ensures { λ r. ⌜ r ≡ max a b ⌝ }
 {
