@@ -59,26 +59,33 @@ abbrev pub isFractional : Strategy → Bool
 isFractional Integer = false
 isFractional Fractional = true
 
--- whether odd P is allowed, the source's hertz, and what is asked for
+-- document 01, One PLL: whether odd P is allowed, the source's hertz, and what is asked for
 module _ (odd : Bool) (source : ℕ) (a : PllRequest) where
+  -- the least counted output
   abbrev pub min : ℕ
   min = least (countedOutputs odd a)
 
+  -- the largest
   abbrev pub max : ℕ
   max = largest (countedOutputs odd a)
 
+  -- the first VCO range whose end is strictly above max
   abbrev pub range : Range
   range = rangeFor odd a
 
+  -- max × (end / max), divided where target / min is over 128
   abbrev pub target : ℕ
   target = targetFor odd a
 
+  -- the smallest M with the least shortfall
   abbrev pub m : ℕ
   m = numberM (chosenM source target (range .low) (range .high))
 
+  -- ref = source / M
   abbrev pub ref : ℕ
   ref = source / m
 
+  -- N = target / ref
   abbrev pub n : ℕ
   n = target / ref
 
@@ -86,13 +93,15 @@ module _ (odd : Bool) (source : ℕ) (a : PllRequest) where
   abbrev pub fracn : Float
   fracn = fracnFloat (float ref) (float n) (float (target / firstOf a)) (float (firstOf a))
 
+  -- P's divider = target / output
   abbrev pub dividerP : ℕ
   dividerP = target / hertzOr (a .p) 0
 
-  -- what it runs at, and the hertz of one of its outputs
+  -- VCO is ref × N in Integer, ref × (N + FRACN / 8192) in f32 in Fractional
   abbrev pub vco : ℕ
   vco = cond (isFractional (a .strategy)) (vcoOf ref n (toUnsigned 16 fracn)) (ref * n)
 
+  -- an output's hertz: VCO / divider
   abbrev pub clockAt : Hertz → ℕ
   clockAt Unset = 0
   clockAt (Hz h) = vco / (target / h)
@@ -107,6 +116,7 @@ pub record OfPll : Type 0 where
   pub fracn : Float
   pub dividerP : ℕ
 
+-- the same, of a PLL
 abbrev pub ofPll : (odd : Bool) → (source : ℕ) → PllRequest → OfPll
 ofPll odd source a = record {
   min = min odd source a;

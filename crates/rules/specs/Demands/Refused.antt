@@ -68,9 +68,11 @@ requestRows q =
 -- ---- 7 to 15, for one PLL
 -- odd P allowed or forbidden, the source's hertz, and what is asked of the PLL
 module _ (odd : Bool) (source : ℕ) (a : PllRequest) where
+  -- its min, max, range, target, N, FRACN and P's divider
   abbrev x : OfPll
   x = ofPll odd source a
 
+  -- 7 to 15
   unfoldable pub pllRows : List Row
   pllRows =
       7 when any isZero (a .p ∷ a .q ∷ a .r ∷ [])  -- output of 0 Hz
