@@ -9,6 +9,7 @@ use Rattle.types.specs.declared.Pll.{Pll}
 use Rattle.types.specs.declared.Pll.the-variants.{Idle}
 use Rattle.types.specs.declared.Plan.{Plan}
 use Rattle.types.specs.declared.Refusal.the-variants.{SourceZero, HsiOff, HsidivNot2}
+use Rattle.rules.specs.Document01.Chip.{divisorOf}
 use Rattle.rules.specs.Document01.Result.{Result, refused, ok, _>>=_, _>>_, require}
 use Rattle.rules.specs.Document01.Request.{pllAt, limited, stated, forSystemClock, needsPll1, systemOf, pll1Asked, pll2Asked, sourceOf}
 use Rattle.rules.specs.Document01.OnePll.{pllOf}
@@ -61,8 +62,8 @@ module _ (q : Request) (c : ChipState) (l : Plls) where
   pub hsi-off : c .hsion ≡ false → Spec.rest q c l ≡ refused HsiOff
   hsi-off e = rw e
 
-  pub hsidiv : c .hsion ≡ true → eqb (c .hsidiv) 2 ≡ false → Spec.rest q c l ≡ refused HsidivNot2
+  pub hsidiv : c .hsion ≡ true → eqb (divisorOf (c .hsidiv)) 2 ≡ false → Spec.rest q c l ≡ refused HsidivNot2
   hsidiv e f = rw (e, f)
 
-  pub hsi-ready : c .hsion ≡ true → eqb (c .hsidiv) 2 ≡ true → Spec.rest q c l ≡ Spec.finish q c l (busesOf q (systemFrom q l)) (mcosOf q l (systemFrom q l))
+  pub hsi-ready : c .hsion ≡ true → eqb (divisorOf (c .hsidiv)) 2 ≡ true → Spec.rest q c l ≡ Spec.finish q c l (busesOf q (systemFrom q l)) (mcosOf q l (systemFrom q l))
   hsi-ready e f = rw (e, f)

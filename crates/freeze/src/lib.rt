@@ -1,5 +1,7 @@
 // From a typed request and the chip's state to one complete plan or one refusal of 3 to 23. rcc.rs (freeze).
 ghost use mathlib.Core.Path.{_≡_};
+ghost use lib.Dec.{eqb};
+ghost use Rattle.rules.specs.Document01.Chip.{divisorOf};
 ghost use Rattle.rules.specs.Document01.Plan.{answerTo, answered};
 ghost use Rattle.rules.specs.Document01.Result as Result;
 ghost use Rattle.rules.specs.Document01.Request as Step;
@@ -11,6 +13,7 @@ use core_clocks::McosAnswer;
 use pll::PllAnswer;
 use types::Answer;
 use types::ChipState;
+use types::Hsidiv;
 use types::Planned;
 use types::Pll;
 use types::PllRequest;
@@ -89,6 +92,17 @@ fn in_order(
     }
 }
 
+fn is_div2(hsidiv: Hsidiv) -> bool
+    ensures { λ r. ⌜ r ≡ eqb (divisorOf hsidiv) 2 ⌝ }
+{
+    match hsidiv {
+        Hsidiv::Div1 => false,
+        Hsidiv::Div2 => true,
+        Hsidiv::Div4 => false,
+        Hsidiv::Div8 => false,
+    }
+}
+
 // Refusals 16 and 17, then the clocks behind the PLLs.
 fn rest(
     q: Request,
@@ -105,7 +119,9 @@ fn rest(
     if !c.hsion {
         return assemble::refused(Refusal::HsiOff);
     }
-    if c.hsidiv != 2 {
+    let hsidiv = c.hsidiv;
+    let by_2 = is_div2(hsidiv);
+    if !by_2 {
         return assemble::refused(Refusal::HsidivNot2);
     }
     let system = core_clocks::system_from(needs, source, pll1);

@@ -3,7 +3,7 @@ use mathlib.Core.Bool.{Bool, _&&_, _||_}
 use lib.Dec.{eqb, ltb}
 use Rattle.types.specs.declared.Chip.{Chip}
 use Rattle.types.specs.declared.ChipState.{ChipState}
-use Rattle.rules.specs.Document01.Chip.{isBit, isHsidiv, scaleOf}
+use Rattle.rules.specs.Document01.Chip.{isBit, isHsidiv, hsidivOf, scaleOf}
 
 -- permissions 0 or 1
 abbrev pub oddsOk : Chip → Bool
@@ -22,5 +22,5 @@ stateOf c = record {
   odd3 = eqb (c .odd3) 1;
   scale = scaleOf (c .scale);
   hsion = eqb (c .hsion) 1;
-  hsidiv = c .hsidiv;
+  hsidiv = hsidivOf (c .hsidiv);
 }

@@ -11,6 +11,7 @@ use Rattle.types.specs.declared.Scale.the-variants.{Scale0}
 use Rattle.types.specs.declared.PllRequest.{PllRequest}
 use Rattle.types.specs.declared.Refusal.the-variants.{OutsideCodes}
 use Rattle.types.specs.declared.Request.{Request}
+use Rattle.types.specs.declared.Hsidiv.{Hsidiv}
 use Rattle.types.specs.declared.ChipState.{ChipState}
 use Rattle.rules.specs.Document01.Result.{Result, refused, ok}
 use Rattle.rules.specs.Document01.Bytes.{Read, pllPart, noPart}
@@ -40,7 +41,7 @@ blankRequest = record {
 
 -- the chip beside it
 abbrev pub blankChip : ChipState
-blankChip = record { three = false; odd1 = false; odd2 = false; odd3 = false; scale = Scale0; hsion = false; hsidiv = 0 }
+blankChip = record { three = false; odd1 = false; odd2 = false; odd3 = false; scale = Scale0; hsion = false; hsidiv = Hsidiv.Div1 }
 
 -- refusal 1
 abbrev pub blankRead : RequestRead

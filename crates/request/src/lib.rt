@@ -6,6 +6,7 @@ ghost use Rattle.request.specs.Request.{blankRequest, blankRead, request
 use types::Chip;
 use types::ChipState;
 use types::Hertz;
+use types::Hsidiv;
 use types::Mco1Source;
 use types::Mco2Source;
 use types::PllRequest;
@@ -57,7 +58,7 @@ fn blank() -> RequestRead
         odd3: false,
         scale: Scale::Scale0,
         hsion: false,
-        hsidiv: 0,
+        hsidiv: Hsidiv::Div1,
     };
     let request = blank_request();
     RequestRead {

@@ -2,10 +2,11 @@
 ghost use mathlib.Core.Path.{_≡_};
 ghost use mathlib.Core.Bool.{_||_};
 ghost use lib.Dec.{eqb, ltb};
-ghost use Rattle.rules.specs.Document01.Chip.{isHsidiv, scaleOf};
+ghost use Rattle.rules.specs.Document01.Chip.{isHsidiv, hsidivOf, scaleOf};
 ghost use Rattle.request.specs.Chips.{chipOk, oddsOk, stateOf};
 use types::Chip;
 use types::ChipState;
+use types::Hsidiv;
 use types::Scale;
 
 fn two_or_three(n: u32) -> bool
@@ -60,11 +61,27 @@ fn scale_of(n: u32) -> Scale
     }
 }
 
+fn hsidiv_of(n: u32) -> Hsidiv
+    ensures { λ r. ⌜ r ≡ hsidivOf n ⌝ }
+{
+    if n == 1 {
+        return Hsidiv::Div1;
+    }
+    if n == 2 {
+        return Hsidiv::Div2;
+    }
+    if n == 4 {
+        return Hsidiv::Div4;
+    }
+    Hsidiv::Div8
+}
+
 // The state that the numbers stand for.
 pub fn state_of(chip: Chip) -> ChipState
     ensures { λ r. ⌜ r ≡ stateOf chip ⌝ }
 {
     let scale = scale_of(chip.scale);
+    let hsidiv = hsidiv_of(chip.hsidiv);
     ChipState {
         three: chip.plls == 3,
         odd1: chip.odd1 == 1,
@@ -72,6 +89,6 @@ pub fn state_of(chip: Chip) -> ChipState
         odd3: chip.odd3 == 1,
         scale,
         hsion: chip.hsion == 1,
-        hsidiv: chip.hsidiv,
+        hsidiv,
     }
 }

@@ -14,6 +14,7 @@ use Rattle.types.specs.declared.Fraction.the-variants.{Whole, Part}
 use Rattle.types.specs.declared.PllSettings.{PllSettings}
 use Rattle.types.specs.declared.Scale.{Scale}
 use Rattle.types.specs.declared.Scale.the-variants.{Scale0, Scale3}
+use Rattle.types.specs.declared.Hsidiv.{Hsidiv}
 use Rattle.types.specs.declared.ChipState.{ChipState}
 use Rattle.types.specs.declared.Plan.{Plan}
 use Rattle.rules.specs.Document01.Plan.{answerTo}
@@ -29,7 +30,7 @@ abbrev clocks : Plan → List ℕ
 clocks p = p .sys ∷ p .hclk ∷ p .latency ∷ p .delay ∷ []
 
 abbrev at : Scale → ChipState
-at s = record { three = false; odd1 = true; odd2 = true; odd3 = true; scale = s; hsion = true; hsidiv = 2 }
+at s = record { three = false; odd1 = true; odd2 = true; odd3 = true; scale = s; hsion = true; hsidiv = Hsidiv.Div2 }
 
 -- the medium VCO below 150,000,000: the target, 150,000,001, is what is tested
 pub vco-below-its-range : look (inPll2 vco) (answerTo (onHse 1_999_999 (pll Integer (Hz 1_171_876) (Hz 150_000_001))) (state true)) ≡ plan (1 ∷ 1 ∷ 75 ∷ 149_999_925 ∷ [])

@@ -12,6 +12,7 @@ use Rattle.types.specs.declared.PllRequest.{PllRequest}
 use Rattle.types.specs.declared.Request.{Request}
 use Rattle.types.specs.declared.Scale.the-variants.{Scale0}
 use Rattle.types.specs.declared.Chip.{Chip}
+use Rattle.types.specs.declared.Hsidiv.{Hsidiv}
 use Rattle.types.specs.declared.ChipState.{ChipState}
 use Rattle.types.specs.declared.PllSettings.{PllSettings}
 use Rattle.types.specs.declared.Pll.{Pll}
@@ -129,11 +130,11 @@ chip plls odd = chip7 plls odd odd odd 0 1 2
 
 -- the same as a state, of two PLLs
 abbrev pub state : (odd : Bool) → ChipState
-state odd = record { three = false; odd1 = odd; odd2 = odd; odd3 = odd; scale = Scale0; hsion = true; hsidiv = 2 }
+state odd = record { three = false; odd1 = odd; odd2 = odd; odd3 = odd; scale = Scale0; hsion = true; hsidiv = Hsidiv.Div2 }
 
 -- three PLLs, each allowed to divide P by an odd number or not
 abbrev pub state3 : (odd1 odd2 odd3 : Bool) → ChipState
-state3 odd1 odd2 odd3 = record { three = true; odd1 = odd1; odd2 = odd2; odd3 = odd3; scale = Scale0; hsion = true; hsidiv = 2 }
+state3 odd1 odd2 odd3 = record { three = true; odd1 = odd1; odd2 = odd2; odd3 = odd3; scale = Scale0; hsion = true; hsidiv = Hsidiv.Div2 }
 
 -- ---- setting A: odd P forbidden, system 250,000,000
 abbrev pub a : Request

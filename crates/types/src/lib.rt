@@ -61,6 +61,14 @@ pub enum Scale {
     Scale3,
 }
 
+// HSIDIV: what the chip divides HSI by.
+pub enum Hsidiv {
+    Div1,
+    Div2,
+    Div4,
+    Div8,
+}
+
 // Flash wait states: LATENCY, and WRHIGHFREQ's delay.
 pub struct Waits {
     pub latency: u32,
@@ -79,7 +87,7 @@ pub struct Chip {
     pub hsidiv: u32,
 }
 
-// The chip as the rules see it: whether there are three PLLs, the permissions, the scale, HSION, and the divisor that HSIDIV stands for.
+// The chip as the rules see it: whether there are three PLLs, the permissions, the scale, HSION and HSIDIV.
 pub struct ChipState {
     pub three: bool,
     pub odd1: bool,
@@ -87,7 +95,7 @@ pub struct ChipState {
     pub odd3: bool,
     pub scale: Scale,
     pub hsion: bool,
-    pub hsidiv: u32,
+    pub hsidiv: Hsidiv,
 }
 
 // The listed refusals, 1 to 24 in this order; specs/Document01/Refusals of crates/rules gives each its number.

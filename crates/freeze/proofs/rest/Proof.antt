@@ -2,7 +2,7 @@
 use Rattle.core_clocks.specs.CoreClocks.{busesAnswer, mcosAnswer, two}
 use Rattle.rules.specs.Document01.Plan.{Plls, systemFrom, busesOf, mcosOf}
 use Rattle.freeze.specs.Freeze.{answered, plls}
-use borrow.Author.Tests.{eq-eqb, ne-eqb, not-true, not-false}
+use borrow.Author.Tests.{not-true, not-false}
 use mathlib.Core.Path.{_≡_, _∙_, sym, ap}
 use Rattle.freeze.proofs.Back as Back
 use Rattle.freeze.proofs.Steps.{hsi-off, hsidiv, hsi-ready}
@@ -30,6 +30,9 @@ returns c =
     let a = k .args in
     c .refused .ensures ∙ ap answered (sym (hsi-off (a .q) (a .c) (three k) (not-true (a .c .hsion) (c .before .if1 .taken))))
 
+is-div2-requires : tie.Need-is-div2-requires
+is-div2-requires c κs = search needs
+
 refused-requires-2 : tie.Need-refused-requires-2
 refused-requires-2 c κs = search needs
 
@@ -37,7 +40,7 @@ returns-2 : tie.Need-returns-2
 returns-2 c =
     let k = c .before .before .before .before .before in
     let a = k .args in
-    c .refused2 .ensures ∙ ap answered (sym (hsidiv (a .q) (a .c) (three k) (not-false (a .c .hsion) (c .before .before .before .if1 .left)) (ne-eqb (a .c .hsidiv) 2 (c .before .if2 .taken))))
+    c .refused2 .ensures ∙ ap answered (sym (hsidiv (a .q) (a .c) (three k) (not-false (a .c .hsion) (c .before .before .before .if1 .left)) (sym (c .before .before .is-div2 .ensures) ∙ not-true _ (c .before .if2 .taken))))
 
 system-from-requires : tie.Need-system-from-requires
 system-from-requires c κs = search needs
@@ -60,7 +63,7 @@ returns-3 c =
     let s = system (c .before .before .before) in
     let x = Back.buses (busesOf (a .q) (systemFrom (a .q) l)) (c .before .before .bus-clocks .ensures ∙ ap (λ y. busesAnswer (busesOf (a .q) y)) s) in
     let y = Back.mcos (mcosOf (a .q) l (systemFrom (a .q) l)) (c .before .mco-clocks .ensures ∙ ap (λ y. mcosAnswer (mcosOf (a .q) (two (a .pll1) (a .pll2)) y)) s) in
-    c .finish .ensures ∙ ap answered (Back.finish (a .q) (a .c) l x y ∙ sym (hsi-ready (a .q) (a .c) l (not-false (a .c .hsion) (c .before .before .before .before .before .before .if1 .left)) (eq-eqb (a .c .hsidiv) 2 (c .before .before .before .before .if2 .left))))
+    c .finish .ensures ∙ ap answered (Back.finish (a .q) (a .c) l x y ∙ sym (hsi-ready (a .q) (a .c) l (not-false (a .c .hsion) (c .before .before .before .before .before .before .if1 .left)) (sym (c .before .before .before .before .before .is-div2 .ensures) ∙ not-false _ (c .before .before .before .before .if2 .left))))
 
 pub rest-spec : {M : Type 1} → statement M
 rest-spec =
@@ -68,6 +71,7 @@ rest-spec =
     (tie.spec
     refused-requires
     returns
+    is-div2-requires
     refused-requires-2
     returns-2
     system-from-requires

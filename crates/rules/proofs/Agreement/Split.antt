@@ -10,7 +10,7 @@ use Rattle.types.specs.declared.ChipState.{ChipState}
 use Rattle.rules.specs.Document01.Fields
 use Rattle.rules.specs.Rust.Run.{ends, Run, continue, _>>=_, _>>_, return, assert, modify, poll}
 use Rattle.rules.specs.Rust.CoreClocks.{CoreClocks}
-use Rattle.rules.specs.Rust.Rcc.{DefaultX2, setters, mco1-setup, mco2-setup, sys-ck-setup, plls-setup, sys-ck-of, match-per-ck, buses-calculate, mcos-calculate, start-clocks, start-plls, switch-clocks, clocks-of, freeze, frozen}
+use Rattle.rules.specs.Rust.Rcc.{DefaultX2, setters, mco1-setup, mco2-setup, sys-ck-setup, plls-setup, sys-ck-of, match-per-ck, buses-calculate, mcos-calculate, start-clocks, start-plls, switch-clocks, clocks-of, is-div2, freeze, frozen}
 use Rattle.rules.proofs.Agreement.Keeps.{Keeps, laws, buses, mcos, clocks, plls, switches}
 use Rattle.rules.proofs.Agreement.Agree.{continue-twice, continue-same}
 use Rattle.rules.proofs.Agreement.Plls.{Ready, afterSys, afterMco2, afterMco1, afterSetters, ready}
@@ -32,7 +32,7 @@ abbrev pub rest : ChipState → Ready → Run CoreClocks
 rest chip r = do
   sys-ck ← sys-ck-of (r .s) (r .plls)
   assert (chip .hsion)
-  assert (eqb (chip .hsidiv) 2)
+  assert (is-div2 (chip .hsidiv))
   afterAsserts chip r sys-ck
 
 -- it takes no operation back

@@ -13,11 +13,13 @@ use Rattle.types.specs.declared.Hertz.{Hertz}
 use Rattle.types.specs.declared.Hertz.the-variants.{Unset, Hz}
 use Rattle.types.specs.declared.PllRequest.{PllRequest}
 use Rattle.types.specs.declared.Request.{Request}
+use Rattle.types.specs.declared.Hsidiv.{Hsidiv}
 use Rattle.types.specs.declared.ChipState.{ChipState}
 use Rattle.types.specs.declared.Pll.the-variants.{Idle}
 use Rattle.types.specs.declared.Refusal.{Refusal}
 use Rattle.types.specs.declared.Refusal.the-variants.{HsiOff, HsidivNot2}
 use Rattle.types.specs.declared.Plan.{Plan}
+use Rattle.rules.specs.Document01.Chip.{divisorOf}
 use Rattle.rules.specs.Document01.Result as Rules
 use Rattle.rules.specs.Document01.Result.{Result, refused, ok, require}
 use Rattle.rules.specs.Document01.Hertz.{isSet, hertzOr}
@@ -32,7 +34,7 @@ use Rattle.rules.specs.Document01.Entries.{setupEntries, clockEntries, h
 use Rattle.rules.specs.Rust.Run.{Outcome, panics, ends, Run, continue, assert, unwrap, is-some}
 use Rattle.rules.specs.Rust.Rcc as F
 use Rattle.rules.specs.Rust.CoreClocks.{CoreClocks}
-use Rattle.rules.specs.Rust.Rcc.{DefaultX2, sys-ck-of, match-per-ck, swbits, buses-calculate, mcos-calculate, start-clocks, start-plls, switch-clocks, clocks-of, frozen}
+use Rattle.rules.specs.Rust.Rcc.{DefaultX2, sys-ck-of, match-per-ck, swbits, buses-calculate, mcos-calculate, start-clocks, start-plls, switch-clocks, clocks-of, is-div2, frozen}
 use Rattle.rules.specs.Demands.Report.{reported}
 use Rattle.rules.specs.Demands.Agreement.{Cause, Departure, AllowsEachP, Agreement}
 use Rattle.rules.specs.Demands.Legal.{LegalPlan}
@@ -114,10 +116,12 @@ abbrev afterPlls : Request → ChipState → R.Plls → Result Plan
 afterPlls q c l = Rules._>>_ (hsiReady c) (Rules._>>=_ (busesOf q (systemFrom q l)) (λ b. Rules._>>=_ (mcosOf q l (systemFrom q l)) (λ m. ok (planWith q c l b m))))
 
 -- refusals 16 and 17
-asserted : (a b : Bool) (x : Result Plan) (y : Run CoreClocks) (es : List Entry) → Agree Final x (y es) → Agree Final (Rules._>>_ (Rules._>>_ (require a HsiOff) (require b HsidivNot2)) x) (continue (assert a es) (λ u es. continue (assert b es) (λ u. y)))
-asserted true true x y es h = h
-asserted true false x y es h = tt
-asserted false b x y es h = tt
+asserted : (a : Bool) (d : Hsidiv) (x : Result Plan) (y : Run CoreClocks) (es : List Entry) → Agree Final x (y es) → Agree Final (Rules._>>_ (Rules._>>_ (require a HsiOff) (require (eqb (divisorOf d) 2) HsidivNot2)) x) (continue (assert a es) (λ u es. continue (assert (is-div2 d) es) (λ u. y)))
+asserted true Hsidiv.Div1 x y es h = tt
+asserted true Hsidiv.Div2 x y es h = h
+asserted true Hsidiv.Div4 x y es h = tt
+asserted true Hsidiv.Div8 x y es h = tt
+asserted false d x y es h = tt
 
 module _ (q : Request) (c : ChipState) (l : R.Plls) (asked1 : PllRequest) (needed : needsPll1 q ≡ true → isSet (pClock (l .pll1)) ≡ true) (third : c .three ≡ false → l .pll3 ≡ Idle) (st : Stated q) where
   abbrev es0 : List Entry
@@ -148,7 +152,7 @@ module _ (q : Request) (c : ChipState) (l : R.Plls) (asked1 : PllRequest) (neede
       (λ m es4 rm k. rw (k .0, k .1) (ending b m rb (record { kept = refl; some = s .some; hclk = s .hclk; pclk1 = s .pclk1; pclk2 = s .pclk2; pclk3 = s .pclk3 })))))
 
   pub rest-agrees : AgreeOrDepart q c Final (afterPlls q c l) (rest c r es0)
-  rest-agrees = agree-always (Departure q c) Final (afterPlls q c l) (rest c r es0) (rw (system-ends q asked1 l es0 needed) (asserted (c .hsion) (eqb (c .hsidiv) 2) _ (afterAsserts c r sys) es0 running))
+  rest-agrees = agree-always (Departure q c) Final (afterPlls q c l) (rest c r es0) (rw (system-ends q asked1 l es0 needed) (asserted (c .hsion) (c .hsidiv) _ (afterAsserts c r sys) es0 running))
 
 -- ---- the whole
 pub all-agree : (q : Request) (c : ChipState) → AgreeOrDepart q c Final (chosenPlan q c) (frozen q c)

@@ -27,6 +27,7 @@ use Rattle.types.specs.declared.Plan.{Plan}
 use Rattle.types.specs.declared.Answer.the-variants.{Refused}
 use Rattle.ieee754.specs.Steps.{float, fracnOf}
 use Rattle.rules.specs.Demands.Calls.{Numbered}
+use Rattle.rules.specs.Document01.Chip.{divisorOf}
 use Rattle.rules.specs.Document01.Result.{Result, refused, ok, _>>=_, _>>_, require}
 use Rattle.rules.specs.Document01.Refusals.{numberOf}
 use Rattle.rules.specs.Document01.Hertz.{isSet, notZero, ratioOf}
@@ -245,7 +246,7 @@ mcos-only q l system =
     (λ j. only-then Late (mcoOf j (q .mco2)) _ (mco-only j (q .mco2)) (λ y. tt))))
 
 pub ready-only : (c : ChipState) → Only Late (hsiReady c)
-ready-only c = only-tested Late (c .hsion) HsiOff (require (eqb (c .hsidiv) 2) HsidivNot2) refl (only-require Late (eqb (c .hsidiv) 2) HsidivNot2 refl)
+ready-only c = only-tested Late (c .hsion) HsiOff (require (eqb (divisorOf (c .hsidiv)) 2) HsidivNot2) refl (only-require Late (eqb (divisorOf (c .hsidiv)) 2) HsidivNot2 refl)
 
 pub chosen-plan-only : (q : Request) (c : ChipState) → Only Typed (chosenPlan q c)
 unfolding chosenPlan

@@ -22,6 +22,7 @@ use Rattle.types.specs.declared.Pll.the-variants.{Idle}
 use Rattle.types.specs.declared.Refusal.{Refusal}
 use Rattle.types.specs.declared.Refusal.the-variants.{AboveLimit, McoHseUnstated, Pll1PUnlikeSystem, SourceZero, HsiOff, HsidivNot2, BusZero, AhbZero, McoZero, McoRatio}
 use Rattle.types.specs.declared.Answer.the-variants.{Accepted, Refused}
+use Rattle.rules.specs.Document01.Chip.{divisorOf}
 use Rattle.rules.specs.Document01.Result.{Result, refused, ok, _>>=_, _>>_}
 use Rattle.rules.specs.Document01.Refusals.{numberOf}
 use Rattle.rules.specs.Document01.Hertz.{isSet, hertzOr, ratioOf, notZero}
@@ -102,7 +103,7 @@ says-plls q c =
 
 -- ---- 16 and 17
 says-hsi : (c : ChipState) → Says (hsiReady c) tt (hsiRows c)
-says-hsi c = says-tested (c .hsion) HsiOff (not (c .hsion)) (twice (c .hsion)) (says-test (eqb (c .hsidiv) 2) HsidivNot2 (not (eqb (c .hsidiv) 2)) (twice (eqb (c .hsidiv) 2)))
+says-hsi c = says-tested (c .hsion) HsiOff (not (c .hsion)) (twice (c .hsion)) (says-test (eqb (divisorOf (c .hsidiv)) 2) HsidivNot2 (not (eqb (divisorOf (c .hsidiv)) 2)) (twice (eqb (divisorOf (c .hsidiv)) 2)))
 
 -- ---- 18 and 19
 system-is : (q : Request) (c : ChipState) → systemFrom q (pllsFor q c) ≡ system q c

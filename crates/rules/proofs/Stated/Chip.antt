@@ -1,10 +1,12 @@
 -- The chip's numbers as document 01 and docs/CODES.md state them: which are codes, and which PLL a permission is for.
-use mathlib.Core.Path.{_≡_, refl, ap}
+use mathlib.Core.Path.{_≡_, refl, sym, ap, _∙_}
 use mathlib.Core.Bool.{Bool, true, false, cond, _&&_, _||_}
 use mathlib.Core.List.{List, [], _∷_, map}
 use Prim.Native.Nat.{ℕ}
 use native.Mathlib.Omega.{arith}
 use lib.Dec.{eqb, ltb}
+use borrow.Author.Tests.{eqb-true}
+use Rattle.laws.proofs.Tests.{by-test}
 use Rattle.types.specs.declared.Hertz.the-variants.{Unset, Hz}
 use Rattle.types.specs.declared.Strategy.the-variants.{Integer}
 use Rattle.types.specs.declared.PllRequest.{PllRequest}
@@ -15,7 +17,7 @@ use Rattle.types.specs.declared.ChipState.{ChipState}
 use Rattle.types.specs.declared.Refusal.the-variants.{OutsideCodes}
 use Rattle.rules.specs.Document01.Refusals.{codeOf}
 use Rattle.rules.specs.Document01.Result.{Result, refused, ok, _>>_, require}
-use Rattle.rules.specs.Document01.Chip.{isBit, isHsidiv, scaleOf, chipOf}
+use Rattle.rules.specs.Document01.Chip.{isBit, isHsidiv, hsidivOf, divisorOf, scaleOf, chipOf}
 use Rattle.rules.specs.Document01.Bytes.{requestBytes}
 use Rattle.rules.specs.Document01.Plan.{planOf}
 use Rattle.rules.proofs.Computes.{byRules}
@@ -53,26 +55,33 @@ pub record Says (c : Chip) (s : ChipState) : Type 0 where
   pub odd2 : s .odd2 ≡ eqb (c .odd2) 1
   pub odd3 : s .odd3 ≡ eqb (c .odd3) 1
   pub hsion : s .hsion ≡ eqb (c .hsion) 1
-  pub hsidiv : s .hsidiv ≡ c .hsidiv
+  pub hsidiv : divisorOf (s .hsidiv) ≡ c .hsidiv
 
-passed : {A : Type 0} (t : Bool) (x : Result A) {a : A} → (require t OutsideCodes >> x) ≡ ok a → x ≡ ok a
-passed true x e = e
+passed : {A : Type 0} (t : Bool) (x : Result A) {a : A} → (require t OutsideCodes >> x) ≡ ok a → (t ≡ true) × (x ≡ ok a)
+passed true x e = (refl, e)
 passed false x e = absurd (let z : _≡_ {A = ℕ} 0 1 = cc in omega arith)
 
 one-value : {A : Type 0} {a b : A} → ok a ≡ ok b → b ≡ a
 one-value e = cc
 
+-- a number that is HSIDIV's is what HSIDIV divides by
+divisor-back : (n : ℕ) → isHsidiv n ≡ true → divisorOf (hsidivOf n) ≡ n
+divisor-back n t =
+    by-test (eqb n 1) (λ a. rw a (sym (eqb-true n 1 a)))
+    (λ a. by-test (eqb n 2) (λ b. rw (a, b) (sym (eqb-true n 2 b)))
+    (λ b. by-test (eqb n 4) (λ d. rw (a, b, d) (sym (eqb-true n 4 d)))
+    (λ d. let last : isHsidiv n ≡ eqb n 8 = rw (a, b, d) in rw (a, b, d) (sym (eqb-true n 8 (sym last ∙ t))))))
+
 pub said : (c : Chip) (s : ChipState) → chipOf c ≡ ok s → Says c s
 unfolding chipOf
 said c s e =
-    let k =
-    one-value
-    (passed (isHsidiv (c .hsidiv)) _
-    (passed (isBit (c .hsion)) _
-    (passed (ltb (c .scale) 4) _
-    (passed (isBit (c .odd1) && (isBit (c .odd2) && isBit (c .odd3))) _
-    (passed (eqb (c .plls) 2 || eqb (c .plls) 3) _ e))))) in
-    record { three = ap (λ (x : ChipState). x .three) k; odd1 = ap (λ (x : ChipState). x .odd1) k; odd2 = ap (λ (x : ChipState). x .odd2) k; odd3 = ap (λ (x : ChipState). x .odd3) k; hsion = ap (λ (x : ChipState). x .hsion) k; hsidiv = ap (λ (x : ChipState). x .hsidiv) k }
+    let plls = passed (eqb (c .plls) 2 || eqb (c .plls) 3) _ e in
+    let odds = passed (isBit (c .odd1) && (isBit (c .odd2) && isBit (c .odd3))) _ (plls .1) in
+    let scale = passed (ltb (c .scale) 4) _ (odds .1) in
+    let hsion = passed (isBit (c .hsion)) _ (scale .1) in
+    let hsidiv = passed (isHsidiv (c .hsidiv)) _ (hsion .1) in
+    let k = one-value (hsidiv .1) in
+    record { three = ap (λ (x : ChipState). x .three) k; odd1 = ap (λ (x : ChipState). x .odd1) k; odd2 = ap (λ (x : ChipState). x .odd2) k; odd3 = ap (λ (x : ChipState). x .odd3) k; hsion = ap (λ (x : ChipState). x .hsion) k; hsidiv = ap (λ (x : ChipState). divisorOf (x .hsidiv)) k ∙ divisor-back (c .hsidiv) (hsidiv .0) }
 
 -- the scales by number
 pub scales : map scaleOf (0 ∷ 1 ∷ 2 ∷ 3 ∷ []) ≡ Scale0 ∷ Scale1 ∷ Scale2 ∷ Scale3 ∷ []

@@ -16,6 +16,7 @@ use Rattle.types.specs.declared.Pll.{Pll}
 use Rattle.types.specs.declared.Pll.the-variants.{Idle, Runs}
 use Rattle.types.specs.declared.Scale.{Scale}
 use Rattle.types.specs.declared.Scale.the-variants.{Scale0, Scale1, Scale2, Scale3}
+use Rattle.types.specs.declared.Hsidiv.{Hsidiv}
 use Rattle.types.specs.declared.ChipState.{ChipState}
 use Rattle.types.specs.declared.Plan.{Plan}
 use Rattle.ieee754.specs.Whole.{rounded, quotientWhole, fracnWhole, vcoWhole}
@@ -265,7 +266,7 @@ delayIn nothing = 9
 delayIn (waits l d) = d
 
 abbrev at : Scale → ChipState
-at s = record { three = false; odd1 = true; odd2 = true; odd3 = true; scale = s; hsion = true; hsidiv = 2 }
+at s = record { three = false; odd1 = true; odd2 = true; odd3 = true; scale = s; hsion = true; hsidiv = Hsidiv.Div2 }
 
 abbrev fromHse : (h : ℕ) → Scale → (latency delay : ℕ) → Plan
 fromHse h s latency delay = changed (answerTo (onHse h none) (at s) .plan) h Idle Idle Idle latency delay

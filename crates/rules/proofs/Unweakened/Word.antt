@@ -7,6 +7,7 @@ use mathlib.Core.List.{List, [], _∷_, _++_, map}
 use Prim.Native.Nat.{ℕ, _*_, _≤_, _<_}
 use Rattle.types.specs.declared.Request.{Request}
 use Rattle.types.specs.declared.Chip.{Chip}
+use Rattle.types.specs.declared.Hsidiv.{Hsidiv}
 use Rattle.types.specs.declared.ChipState.{ChipState}
 use Rattle.types.specs.declared.Scale.the-variants.{Scale0}
 use Rattle.types.specs.declared.Pll.the-variants.{Idle}
@@ -82,7 +83,7 @@ module _ (q : Request) (c : ChipState) (x : Planned) (n : Refusal) (e : x .answe
   departed es k h = h .departed n es k e refl
 
 -- whether a PLL may divide P by an odd number, by its number
-pub odd-by-number : (odd1 odd2 odd3 : Bool) → map (oddP (record { three = true; odd1 = odd1; odd2 = odd2; odd3 = odd3; scale = Scale0; hsion = true; hsidiv = 2 })) (0 ∷ 1 ∷ 2 ∷ []) ≡ odd1 ∷ odd2 ∷ odd3 ∷ []
+pub odd-by-number : (odd1 odd2 odd3 : Bool) → map (oddP (record { three = true; odd1 = odd1; odd2 = odd2; odd3 = odd3; scale = Scale0; hsion = true; hsidiv = Hsidiv.Div2 })) (0 ∷ 1 ∷ 2 ∷ []) ≡ odd1 ∷ odd2 ∷ odd3 ∷ []
 odd-by-number odd1 odd2 odd3 = refl
 
 module _ (q : Request) (c : ChipState) (p : Plan) (h : LegalPlan q c p) where

@@ -14,7 +14,7 @@ use Rattle.types.specs.declared.PllRequest.{PllRequest}
 use Rattle.types.specs.declared.Request.{Request}
 use Rattle.types.specs.declared.Chip.{Chip}
 use Rattle.types.specs.declared.ChipState.{ChipState}
-use Rattle.rules.specs.Document01.Chip.{scaleOf}
+use Rattle.rules.specs.Document01.Chip.{scaleOf, hsidivOf}
 use Rattle.rules.specs.Document01.Bytes.{mco1Sources, mco2Sources, noPart}
 
 -- ---- the chip's numbers
@@ -26,7 +26,7 @@ stateOf c = record {
   odd3 = eqb (c .odd3) 1;
   scale = scaleOf (c .scale);
   hsion = eqb (c .hsion) 1;
-  hsidiv = c .hsidiv;
+  hsidiv = hsidivOf (c .hsidiv);
 }
 
 -- ---- the bytes, by places

@@ -12,6 +12,7 @@ use Rattle.types.specs.declared.Request.{Request}
 use Rattle.types.specs.declared.Chip.{Chip}
 use Rattle.types.specs.declared.ChipState.{ChipState}
 use Rattle.ieee754.specs.Steps.{float}
+use Rattle.rules.specs.Document01.Chip.{divisorOf}
 use Rattle.rules.specs.Document01.Hertz.{isSet}
 use Rattle.rules.specs.Document01.Request.{fromHse1, fromHse2, pll1Asked, sourceOf, systemOf, needsPll1, askedOf}
 use Rattle.rules.specs.Document01.ChoiceOfM.{inRange}
@@ -94,7 +95,7 @@ pllRowsAt odd q k = cond (wanted (askedOf q k)) (pllRows odd (sourceOf q) (asked
 abbrev pub hsiRows : ChipState → List Row
 hsiRows c =
     16 when not (c .hsion)  -- HSION off
-    ∷ 17 when not (eqb (c .hsidiv) 2)  -- HSIDIV not 2
+    ∷ 17 when not (eqb (divisorOf (c .hsidiv)) 2)  -- HSIDIV not 2
     ∷ []
 
 -- ---- 18 and 19

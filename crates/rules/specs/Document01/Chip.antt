@@ -1,12 +1,13 @@
 -- Document 01, refusal 1, for the numbers beside a request: PLL count 2 or 3, odd-P permissions and HSION 0 or 1, voltage scale 0 to 3,
 -- HSIDIV 1, 2, 4, 8. All three permissions are judged on either chip.
-use mathlib.Core.Bool.{Bool, _&&_, _||_}
+use mathlib.Core.Bool.{Bool, cond, _&&_, _||_}
 use mathlib.Core.List.{List, [], _∷_}
 use Prim.Native.Nat.{ℕ}
 use lib.Dec.{eqb, ltb}
 use lib.ListN.{getD}
 use Rattle.types.specs.declared.Scale.{Scale}
 use Rattle.types.specs.declared.Scale.the-variants.{Scale0, Scale1, Scale2, Scale3}
+use Rattle.types.specs.declared.Hsidiv.{Hsidiv}
 use Rattle.types.specs.declared.Chip.{Chip}
 use Rattle.types.specs.declared.ChipState.{ChipState}
 use Rattle.types.specs.declared.Refusal.the-variants.{OutsideCodes}
@@ -19,6 +20,17 @@ isBit n = ltb n 2
 -- HSIDIV: 1, 2, 4, 8
 abbrev pub isHsidiv : ℕ → Bool
 isHsidiv n = eqb n 1 || (eqb n 2 || (eqb n 4 || eqb n 8))
+
+-- the one that the number stands for, where it is one of them
+abbrev pub hsidivOf : ℕ → Hsidiv
+hsidivOf n = cond (eqb n 1) Hsidiv.Div1 (cond (eqb n 2) Hsidiv.Div2 (cond (eqb n 4) Hsidiv.Div4 Hsidiv.Div8))
+
+-- what it divides HSI by
+abbrev pub divisorOf : Hsidiv → ℕ
+divisorOf Hsidiv.Div1 = 1
+divisorOf Hsidiv.Div2 = 2
+divisorOf Hsidiv.Div4 = 4
+divisorOf Hsidiv.Div8 = 8
 
 -- voltage scale 0 to 3
 abbrev pub scaleOf : ℕ → Scale
@@ -39,5 +51,5 @@ chipOf c = do
     odd3 = eqb (c .odd3) 1;
     scale = scaleOf (c .scale);
     hsion = eqb (c .hsion) 1;
-    hsidiv = c .hsidiv;
+    hsidiv = hsidivOf (c .hsidiv);
   })

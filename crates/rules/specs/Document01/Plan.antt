@@ -17,7 +17,7 @@ use Rattle.types.specs.declared.Answer.the-variants.{Accepted, Refused}
 use Rattle.types.specs.declared.Planned.{Planned}
 use Rattle.rules.specs.Document01.Result.{Result, refused, ok, _>>=_, _>>_, require}
 use Rattle.rules.specs.Document01.Hertz.{hertzOr}
-use Rattle.rules.specs.Document01.Chip.{chipOf}
+use Rattle.rules.specs.Document01.Chip.{chipOf, divisorOf}
 use Rattle.rules.specs.Document01.Bytes.{requestPart}
 use Rattle.rules.specs.Document01.Request.{pllAt, limited, stated, pll1Asked, pll2Asked, sourceOf, systemOf, needsPll1, forSystemClock, sourced}
 use Rattle.rules.specs.Document01.OnePll.{pllOf, pClock, qClock}
@@ -51,7 +51,7 @@ pllsOf q c = do
 abbrev pub hsiReady : ChipState → Result (Unit {0})
 hsiReady c = do
   require (c .hsion) HsiOff
-  require (eqb (c .hsidiv) 2) HsidivNot2
+  require (eqb (divisorOf (c .hsidiv)) 2) HsidivNot2
 
 -- step 3: PLL1 P as reported is the system clock where it is needed, else the source is
 abbrev pub systemFrom : Request → Plls → ℕ

@@ -12,6 +12,7 @@ use Rattle.types.specs.declared.PllRequest.{PllRequest}
 use Rattle.types.specs.declared.Request.{Request}
 use Rattle.types.specs.declared.Scale.{Scale}
 use Rattle.types.specs.declared.Scale.the-variants.{Scale0, Scale1, Scale2, Scale3}
+use Rattle.types.specs.declared.Hsidiv.{Hsidiv}
 use Rattle.types.specs.declared.ChipState.{ChipState}
 use Rattle.rules.specs.Document01.Fields
 use Rattle.rules.specs.Document01.Fields.{ofPll}
@@ -542,6 +543,13 @@ clocks-of sys-ck c l b m timpre = record {
   sys-ck = sys-ck;
 }
 
+-- hsidiv().is_div2()
+abbrev pub is-div2 : Hsidiv → Bool
+is-div2 Hsidiv.Div1 = false
+is-div2 Hsidiv.Div2 = true
+is-div2 Hsidiv.Div4 = false
+is-div2 Hsidiv.Div8 = false
+
 -- pub fn freeze(mut self, pwrcfg, sbs) -> Ccdr, over the config that the setters made
 unfoldable pub freeze : ChipState → Config → Run CoreClocks
 freeze chip config = do
@@ -551,7 +559,7 @@ freeze chip config = do
   plls ← plls-setup chip (s .config)
   sys-ck ← sys-ck-of s plls
   assert (chip .hsion)
-  assert (eqb (chip .hsidiv) 2)
+  assert (is-div2 (chip .hsidiv))
   modify (Set Fields.LSION 1)
   poll (Wait Fields.LSIRDY 1)
   buses ← buses-calculate sys-ck (s .config)
