@@ -6,7 +6,7 @@ ghost use Rattle.rules.specs.Document01.Entries.{entriesOf};
 ghost use Rattle.rules.specs.Document01.Bank.{applyAll};
 ghost use Rattle.rules.specs.Demands.Rows.{AsRows};
 ghost use Rattle.rules.specs.Demands.Refused.{planRows, bankRows};
-ghost use Rattle.rules.specs.Demands.Calls.{ByPlan, ByBank, Answered, Kept, AsFreeze, IsLegal, ReadTwice, BankReadTwice};
+ghost use Rattle.rules.specs.Demands.Calls.{planNumbers, bankNumbers, Answered, Kept, AsFreeze, IsLegal, ReadTwice, BankReadTwice};
 use types::Chip;
 use types::Planned;
 use types::Refusal;
@@ -14,7 +14,7 @@ use types::Refusal;
 // The planner's call: the bytes of a request and the numbers of a chip to one complete plan or one refusal.
 pub fn plan(request: &[u8], chip: Chip) -> Planned
     ensures rules { λ r. ⌜ r ≡ planOf (now (request .entry)) chip ⌝ }
-    ensures answered { λ r. ⌜ Answered ByPlan r ⌝ }
+    ensures answered { λ r. ⌜ Answered planNumbers r ⌝ }
     ensures freeze { λ r. ⌜ AsFreeze (now (request .entry)) chip r ⌝ }
     ensures legal { λ r. ⌜ IsLegal (now (request .entry)) chip r ⌝ }
     ensures readings { λ r. ⌜ ReadTwice (now (request .entry)) chip r ⌝ }
@@ -34,7 +34,7 @@ pub fn plan_bank(request: &[u8], chip: Chip, bank: &mut [u32]) -> Planned
     ensures rules { λ r. ⌜ r ≡ bankPlanOf (now (request .entry)) chip (length (now (bank .entry))) ⌝ }
     ensures bank { λ r. ⌜ now (bank .exit) ≡ applyAll (entriesOf r) (now (bank .entry)) ⌝ }
     ensures kept { λ r. ⌜ Kept r (now (bank .entry)) (now (bank .exit)) ⌝ }
-    ensures answered { λ r. ⌜ Answered ByBank r ⌝ }
+    ensures answered { λ r. ⌜ Answered bankNumbers r ⌝ }
     ensures freeze { λ r. ⌜ (length (now (bank .entry)) ≡ 82 → AsFreeze (now (request .entry)) chip r) ⌝ }
     ensures legal { λ r. ⌜ IsLegal (now (request .entry)) chip r ⌝ }
     ensures readings { λ r. ⌜ BankReadTwice (now (request .entry)) chip r (now (bank .entry)) (now (bank .exit)) ⌝ }

@@ -25,7 +25,7 @@ use Rattle.rules.specs.Demands.Agreement.{AllowsEachP}
 use Rattle.rules.specs.Demands.Walks.{ShowsAll}
 use Rattle.rules.specs.Demands.Legal.{LegalPlan}
 use Rattle.rules.specs.Demands.Readings.{BankReads}
-use Rattle.rules.specs.Demands.Calls.{ByPlan, ByBank, Answered, Kept, AsFreeze, IsLegal, ReadTwice, BankReadTwice}
+use Rattle.rules.specs.Demands.Calls.{planNumbers, bankNumbers, Answered, Kept, AsFreeze, IsLegal, ReadTwice, BankReadTwice}
 use Rattle.rules.specs.Demands.Rows.{AsRows}
 use Rattle.rules.specs.Demands.Refused.{planRows, bankRows}
 use Rattle.rules.proofs.Refused.Calls.{plan-rows, bank-rows}
@@ -76,7 +76,7 @@ bank-blank : (bytes : List ℕ) (chip : Chip) (words : ℕ) (n : Refusal) → ba
 unfolding bankPlanOf
 bank-blank bytes chip words n e = blank-plan (requestOf bytes chip >>= λ a. require (eqb words 82) BankLength >> chosenPlan (a .request) (a .chip)) n e
 
-pub demand-1 : (bytes : List ℕ) (chip : Chip) → Answered ByPlan (planOf bytes chip)
+pub demand-1 : (bytes : List ℕ) (chip : Chip) → Answered planNumbers (planOf bytes chip)
 demand-1 bytes chip = record {
   plan = accepted-length (planOf bytes chip);
   refusal = plan-numbers bytes chip;
@@ -84,7 +84,7 @@ demand-1 bytes chip = record {
   none = no-entry (planOf bytes chip);
 }
 
-pub demand-1-bank : (bytes : List ℕ) (chip : Chip) (words : ℕ) → Answered ByBank (bankPlanOf bytes chip words)
+pub demand-1-bank : (bytes : List ℕ) (chip : Chip) (words : ℕ) → Answered bankNumbers (bankPlanOf bytes chip words)
 demand-1-bank bytes chip words = record {
   plan = accepted-length (bankPlanOf bytes chip words);
   refusal = bank-numbers bytes chip words;

@@ -1,35 +1,36 @@
 //! Refusals: docs/CODES.md has the table.
 use core::fmt;
 
-/// Why a request gets no plan: a number from 1 to 24, the same for every board and release.
+/// Why a request gets no plan: a listed number, the same for every board and release.
 #[derive(Clone, Copy, PartialEq, Eq, Hash)]
 pub struct Refusal(u32);
 
-const TEXTS: [&str; 24] = [
-    "a byte or number outside its codes, or a wrong length",
-    "a bank that is not 82 words",
-    "system, AHB or an APB requested above 250,000,000 Hz",
-    "an MCO from HSE, and no HSE stated",
-    "PLL1 P unlike the system clock that needs it",
-    "the source has 0 Hz",
-    "a PLL output of 0 Hz",
-    "a PLL's least output is below its largest / 128",
-    "a PLL's largest output is 560,000,000 Hz or more",
-    "the VCO's target is outside its range",
-    "no reference divider M is admissible",
-    "N outside 4 to 512",
-    "FRACN before cutting outside 0 to 8191",
-    "P's divider above 128",
-    "P's divider odd where that is forbidden",
-    "HSION off",
-    "HSIDIV not 2",
-    "AHB or an APB requested 0 Hz",
-    "AHB comes to 0 Hz",
-    "MCO1 from LSE",
-    "an MCO from a PLL output that is not planned",
-    "an MCO of 0 Hz",
-    "an MCO ratio above 15",
-    "CSIRDY down at its check",
+/// The number of each, and what it says.
+const TEXTS: &[(u32, &str)] = &[
+    (1, "a byte or number outside its codes, or a wrong length"),
+    (2, "a bank that is not 82 words"),
+    (3, "system, AHB or an APB requested above 250,000,000 Hz"),
+    (4, "an MCO from HSE, and no HSE stated"),
+    (5, "PLL1 P unlike the system clock that needs it"),
+    (6, "the source has 0 Hz"),
+    (7, "a PLL output of 0 Hz"),
+    (8, "a PLL's least output is below its largest / 128"),
+    (9, "a PLL's largest output is 560,000,000 Hz or more"),
+    (10, "the VCO's target is outside its range"),
+    (11, "no reference divider M is admissible"),
+    (12, "N outside 4 to 512"),
+    (13, "FRACN before cutting outside 0 to 8191"),
+    (14, "P's divider above 128"),
+    (15, "P's divider odd where that is forbidden"),
+    (16, "HSION off"),
+    (17, "HSIDIV not 2"),
+    (18, "AHB or an APB requested 0 Hz"),
+    (19, "AHB comes to 0 Hz"),
+    (20, "MCO1 from LSE"),
+    (21, "an MCO from a PLL output that is not planned"),
+    (22, "an MCO of 0 Hz"),
+    (23, "an MCO ratio above 15"),
+    (24, "CSIRDY down at its check"),
 ];
 
 impl Refusal {
@@ -52,8 +53,7 @@ impl Refusal {
 
     /// What it says, in a few words.
     pub fn text(self) -> &'static str {
-        let place = (self.0 as usize).wrapping_sub(1);
-        TEXTS.get(place).copied().unwrap_or("not a refusal of this release")
+        TEXTS.iter().find(|row| row.0 == self.0).map_or("not a refusal of this release", |row| row.1)
     }
 }
 

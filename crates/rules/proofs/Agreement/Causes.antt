@@ -1,11 +1,10 @@
 -- 14 and 15 are answered only where one of the chip's PLLs has a divider that they refuse, whether freeze panics or ends.
-use mathlib.Core.Path.{_≡_, refl, subst}
+use mathlib.Core.Path.{_≡_, refl, sym, ap, _∙_, subst}
 use mathlib.Core.Logic.{_⊎_, inl, inr}
 use mathlib.Core.Bool.{Bool, true, false, not, cond, _&&_, _||_}
 use Prim.Native.Nat.{ℕ, _/_, _%_, _≤_, _<_}
 use native.Mathlib.Omega.{arith}
 use lib.Dec.{leb, eqb}
-use borrow.Author.Tests.{leb-true}
 use Rattle.types.specs.declared.PllRequest.{PllRequest}
 use Rattle.types.specs.declared.PllSettings.{PllSettings}
 use Rattle.types.specs.declared.Pll.the-variants.{Idle}
@@ -23,9 +22,10 @@ use Rattle.rules.specs.Document01.ChoiceOfM.{chosenM}
 use Rattle.rules.specs.Document01.OnePll.{wanted, noneZero, countedOutputs, least, largest, admissible, firstOf, fractionOf, dividerP, allowedP, spanned, rangeFor, targetFor, dividedBy, settingsOf, settled, runs, running, pllOf}
 use Rattle.rules.specs.Document01.Plan.{thirdOf, pllsOf, hsiReady, systemFrom, busesOf, mcosOf, chosenPlan}
 use Rattle.rules.specs.Demands.Agreement.{oddP, pllCount, Forbidden, Cause}
-use Rattle.laws.proofs.Tests.{by-test, and-left, and-right}
+use Rattle.rules.specs.Manual.Tree.{among}
+use Rattle.laws.proofs.Tests.{by-test, never, and-left, and-right}
 use Rattle.rules.proofs.Document01.Results.{Only, only-weaker, only-require, only-then, only-next, only-tested, only-known}
-use Rattle.rules.proofs.Document01.Refusals.{Early, Late, fraction-only, spanned-only, buses-only, mcos-only, ready-only}
+use Rattle.rules.proofs.Document01.Refusals.{Other, others, fraction-only, spanned-only, buses-only, mcos-only, ready-only}
 use Rattle.rules.proofs.Document01.Span.{pos-is, span}
 use Rattle.rules.proofs.Agreement.Settle.{CountedDivides, above-why, odd-why}
 use Rattle.rules.proofs.Agreement.OnePll.{counted-divides}
@@ -45,11 +45,8 @@ module _ (F : Refusal → Type 0) (n : Refusal) where
   below : numberOf n < 14 → Told F n
   below l = untold (λ e. omega arith) (λ e. omega arith)
 
-  early-told : Early n → Told F n
-  early-told e = let l : numberOf n ≤ 13 = leb-true (numberOf n) 13 (and-left (leb (numberOf n) 13) _ (and-right (leb 3 (numberOf n)) _ e)) in below (omega arith)
-
-  late-told : Late n → Told F n
-  late-told e = let l : 16 ≤ numberOf n = leb-true 16 (numberOf n) (and-left (leb 16 (numberOf n)) _ e) in untold (λ e. omega arith) (λ e. omega arith)
+  other-told : Other n → Told F n
+  other-told h = untold (λ e. never (sym h ∙ ap (among others) e)) (λ e. never (sym h ∙ ap (among others) e))
 
 -- ---- one PLL
 module _ (odd : Bool) (source : ℕ) (a : PllRequest) where
@@ -74,7 +71,7 @@ module _ (odd : Bool) (source : ℕ) (a : PllRequest) where
       let n : ℕ = target / (source / m) in
       only-tested T (leb 4 n && leb n 512) NOutside _ (below (Forbidden odd a) NOutside (omega arith))
       (only-then T (fractionOf (a .strategy) (source / m) n (target / firstOf a) (firstOf a)) _
-      (only-weaker Early T (fractionOf (a .strategy) (source / m) n (target / firstOf a) (firstOf a)) (early-told (Forbidden odd a)) (fraction-only (a .strategy) (source / m) n (target / firstOf a) (firstOf a)))
+      (only-weaker Other T (fractionOf (a .strategy) (source / m) n (target / firstOf a) (firstOf a)) (other-told (Forbidden odd a)) (fraction-only (a .strategy) (source / m) n (target / firstOf a) (firstOf a)))
       (λ f. only-next T (allowedP odd (dividerP target (a .p))) (ok (settingsOf a (rangeFor odd a) target m (source / m) n f)) (allowed-told c) tt))
 
   divided-told : CountedDivides odd target (a .p) → Only T (dividedBy source (rangeFor odd a) target >>= λ m. settled odd a (rangeFor odd a) target m (source / m) (target / (source / m)))
@@ -97,7 +94,7 @@ module _ (odd : Bool) (source : ℕ) (a : PllRequest) where
   unfolding runs spanned
   runs-told w =
       by-test (noneZero a)
-      (λ n. only-next T (spanned odd a) _ (only-weaker Early T (spanned odd a) (early-told (Forbidden odd a)) (spanned-only odd a)) (divided-told (counted-p w n)))
+      (λ n. only-next T (spanned odd a) _ (only-weaker Other T (spanned odd a) (other-told (Forbidden odd a)) (spanned-only odd a)) (divided-told (counted-p w n)))
       (λ n. rw n (below (Forbidden odd a) OutputZero (omega arith)))
 
   running-told : (x : Result PllSettings) → Only T x → Only T (running x)
@@ -147,6 +144,6 @@ module _ (q : Request) (c : ChipState) where
   unfolding chosenPlan
   plan-told =
       only-then C (pllsOf q c) _ plls-told
-      (λ l. only-next C (hsiReady c) _ (only-weaker Late C (hsiReady c) (late-told (Cause q c)) (ready-only c))
-      (only-then C (busesOf q (systemFrom q l)) _ (only-weaker Late C (busesOf q (systemFrom q l)) (late-told (Cause q c)) (buses-only q (systemFrom q l)))
-      (λ b. only-then C (mcosOf q l (systemFrom q l)) _ (only-weaker Late C (mcosOf q l (systemFrom q l)) (late-told (Cause q c)) (mcos-only q l (systemFrom q l))) (λ m. tt))))
+      (λ l. only-next C (hsiReady c) _ (only-weaker Other C (hsiReady c) (other-told (Cause q c)) (ready-only c))
+      (only-then C (busesOf q (systemFrom q l)) _ (only-weaker Other C (busesOf q (systemFrom q l)) (other-told (Cause q c)) (buses-only q (systemFrom q l)))
+      (λ b. only-then C (mcosOf q l (systemFrom q l)) _ (only-weaker Other C (mcosOf q l (systemFrom q l)) (other-told (Cause q c)) (mcos-only q l (systemFrom q l))) (λ m. tt))))

@@ -1,12 +1,11 @@
--- Which refusals there are: each has its own number from 1 to 24, and which numbers each call can answer.
+-- Which refusals there are: each has its own number, and which numbers a typed request can get.
 use mathlib.Core.Path.{_≡_, refl, sym, ap, _∙_, subst}
-use mathlib.Core.Bool.{Bool, true, false, not, _&&_, _||_}
+use mathlib.Core.Bool.{Bool, true, false, not, cond, _&&_, _||_}
 use mathlib.Core.List.{List, [], _∷_}
-use Prim.Native.Nat.{ℕ, _/_, _%_, _≤_}
+use Prim.Native.Nat.{ℕ, _/_, _%_}
 use native.Mathlib.Omega.{arith}
 use lib.Dec.{leb, ltb, eqb}
-use lib.ListN.{getD}
-use borrow.Author.Tests.{leb-true, le-leb, eqb-false, not-true}
+use borrow.Author.Tests.{eqb-true}
 use Rattle.types.specs.declared.Hertz.{Hertz}
 use Rattle.types.specs.declared.Hertz.the-variants.{Unset, Hz}
 use Rattle.types.specs.declared.Strategy.{Strategy}
@@ -26,7 +25,8 @@ use Rattle.types.specs.declared.Refusal.the-variants.{OutsideCodes, BankLength,
 use Rattle.types.specs.declared.Plan.{Plan}
 use Rattle.types.specs.declared.Answer.the-variants.{Refused}
 use Rattle.ieee754.specs.Steps.{float, fracnOf}
-use Rattle.rules.specs.Demands.Calls.{Numbered}
+use Rattle.rules.specs.Demands.Calls.{typedNumbers}
+use Rattle.rules.specs.Manual.Tree.{among}
 use Rattle.rules.specs.Document01.Chip.{divisorOf}
 use Rattle.rules.specs.Document01.Result.{Result, refused, ok, _>>=_, _>>_, require}
 use Rattle.rules.specs.Document01.Refusals.{numberOf}
@@ -37,19 +37,24 @@ use Rattle.rules.specs.Document01.OnePll.{wanted, noneZero, countedOutpu
 use Rattle.rules.specs.Document01.Buses.{hpreFor, ppreFor, ahbOf, apbOf}
 use Rattle.rules.specs.Document01.Mco.{Mco, planned, mco1Input, mco2Input, mcoOf}
 use Rattle.rules.specs.Document01.Plan.{Plls, thirdOf, pllsOf, hsiReady, systemFrom, busesOf, mcosOf, chosenPlan, answered, answerTo}
-use Rattle.laws.proofs.Tests.{by-test, and-left, and-right}
+use Rattle.laws.proofs.Tests.{by-test, never, and-left, and-right}
 use Rattle.rules.proofs.Document01.Results.{Only, only-weaker, only-require, only-then, only-next, only-tested}
 use Rattle.rules.proofs.Document01.Multiplier.{range-kind, n-tested, n-known}
 
 -- ---- no two refusals have the same number
--- the refusals in the order of their numbers, from 1
+-- all of them
 abbrev inOrder : List Refusal
 inOrder =
     OutsideCodes ∷ BankLength ∷ AboveLimit ∷ McoHseUnstated ∷ Pll1PUnlikeSystem ∷ SourceZero ∷ OutputZero ∷ OutputsTooFarApart ∷ OutputTooHigh ∷ TargetOutside ∷ NoM ∷ NOutside
     ∷ FracnOutside ∷ PDividerAbove128 ∷ PDividerOdd ∷ HsiOff ∷ HsidivNot2 ∷ BusZero ∷ AhbZero ∷ Mco1Lse ∷ McoNoOutput ∷ McoZero ∷ McoRatio ∷ CsiDown ∷ []
 
+-- the one with that number
+abbrev numbered : List Refusal → ℕ → Refusal
+numbered [] n = CsiDown
+numbered (m ∷ ms) n = cond (eqb n (numberOf m)) m (numbered ms n)
+
 abbrev refusalOf : ℕ → Refusal
-refusalOf n = getD (CsiDown ∷ inOrder) n CsiDown
+refusalOf = numbered inOrder
 
 back : (n : Refusal) → refusalOf (numberOf n) ≡ n
 back OutsideCodes = refl
@@ -80,41 +85,37 @@ back CsiDown = refl
 pub numbers-differ : (m n : Refusal) → numberOf m ≡ numberOf n → m ≡ n
 numbers-differ m n e = sym (back m) ∙ ap refusalOf e ∙ back n
 
--- ---- a typed request is refused with 3 to 23, and never with 12
-abbrev pub between : (low high : ℕ) → Refusal → Bool
-between low high n = leb low (numberOf n) && (leb (numberOf n) high && not (eqb (numberOf n) 12))
-
-abbrev pub typed : Refusal → Bool
-typed n = between 3 23 n
-
+-- ---- a typed request is refused with one of its numbers
 abbrev pub Typed : Refusal → Type 0
-Typed n = typed n ≡ true
+Typed n = among typedNumbers (numberOf n) ≡ true
 
--- before 14, and after 15
-abbrev pub Early : Refusal → Type 0
-Early n = between 3 13 n ≡ true
+-- one of them that is not about a divider of P
+abbrev pub others : List ℕ
+others = 3 ∷ 4 ∷ 5 ∷ 6 ∷ 7 ∷ 8 ∷ 9 ∷ 10 ∷ 11 ∷ 13 ∷ 16 ∷ 17 ∷ 18 ∷ 19 ∷ 20 ∷ 21 ∷ 22 ∷ 23 ∷ []
 
-abbrev pub Late : Refusal → Type 0
-Late n = between 16 23 n ≡ true
+abbrev pub Other : Refusal → Type 0
+Other n = among others (numberOf n) ≡ true
 
-between-typed : (low high : ℕ) (n : Refusal) → 3 ≤ low → high ≤ 23 → between low high n ≡ true → Typed n
-between-typed low high n l h t =
-    let rest : leb (numberOf n) high && not (eqb (numberOf n) 12) ≡ true = and-right (leb low (numberOf n)) _ t in
-    let from : low ≤ numberOf n = leb-true low (numberOf n) (and-left (leb low (numberOf n)) _ t) in
-    let to : numberOf n ≤ high = leb-true (numberOf n) high (and-left (leb (numberOf n) high) _ rest) in
-    rw (le-leb 3 (numberOf n) (omega arith), le-leb (numberOf n) 23 (omega arith)) (and-right (leb (numberOf n) high) _ rest)
+-- a number of one list is one of another, where each number is
+abbrev eachAmong : List ℕ → List ℕ → Bool
+eachAmong ys [] = true
+eachAmong ys (x ∷ xs) = among ys x && eachAmong ys xs
 
-early-typed : (n : Refusal) → Early n → Typed n
-early-typed n = between-typed 3 13 n (omega arith) (omega arith)
+pub among-more : (xs ys : List ℕ) → eachAmong ys xs ≡ true → (n : ℕ) → among xs n ≡ true → among ys n ≡ true
+among-more [] ys h n t = absurd (never (sym t))
+among-more (x ∷ xs) ys h n t =
+    by-test (eqb n x)
+    (λ e. rw (eqb-true n x e) (and-left (among ys x) _ h))
+    (λ f. let rest : (eqb n x || among xs n) ≡ among xs n = rw f in among-more xs ys (and-right (among ys x) _ h) n (sym rest ∙ t))
 
-late-typed : (n : Refusal) → Late n → Typed n
-late-typed n = between-typed 16 23 n (omega arith) (omega arith)
+other-typed : (n : Refusal) → Other n → Typed n
+other-typed n = among-more others typedNumbers refl (numberOf n)
 
-taken-only : (v : Fracn) → Only Early (taken v)
+taken-only : (v : Fracn) → Only Other (taken v)
 taken-only (Value f) = tt
 taken-only OutOfRange = refl
 
-pub fraction-only : (s : Strategy) (ref n d o : ℕ) → Only Early (fractionOf s ref n d o)
+pub fraction-only : (s : Strategy) (ref n d o : ℕ) → Only Other (fractionOf s ref n d o)
 fraction-only Integer ref n d o = tt
 fraction-only Fractional ref n d o = taken-only (fracnOf (float ref) (float n) (float d) (float o))
 
@@ -122,13 +123,13 @@ allowed-only : (odd : Bool) (d : ℕ) → Only Typed (allowedP odd d)
 allowed-only odd d =
     only-tested Typed (leb d 128) PDividerAbove128 (require (odd || eqb (d % 2) 0) PDividerOdd) refl (only-require Typed (odd || eqb (d % 2) 0) PDividerOdd refl)
 
-pub spanned-only : (odd : Bool) (a : PllRequest) → Only Early (spanned odd a)
+pub spanned-only : (odd : Bool) (a : PllRequest) → Only Other (spanned odd a)
 unfolding spanned
 spanned-only odd a =
     let low : ℕ = least (countedOutputs odd a) in
     let most : ℕ = largest (countedOutputs odd a) in
-    only-tested Early (noneZero a) OutputZero (require (leb (most / 128) low) OutputsTooFarApart >> require (ltb most 560_000_000) OutputTooHigh) refl
-    (only-tested Early (leb (most / 128) low) OutputsTooFarApart (require (ltb most 560_000_000) OutputTooHigh) refl (only-require Early (ltb most 560_000_000) OutputTooHigh refl))
+    only-tested Other (noneZero a) OutputZero (require (leb (most / 128) low) OutputsTooFarApart >> require (ltb most 560_000_000) OutputTooHigh) refl
+    (only-tested Other (leb (most / 128) low) OutputsTooFarApart (require (ltb most 560_000_000) OutputTooHigh) refl (only-require Other (ltb most 560_000_000) OutputTooHigh refl))
 
 module _ (odd : Bool) (source : ℕ) (a : PllRequest) where
   abbrev g : Range
@@ -142,7 +143,7 @@ module _ (odd : Bool) (source : ℕ) (a : PllRequest) where
   settled-only m t =
       rw t
       (only-then Typed (fractionOf (a .strategy) (source / m) (target / (source / m)) (target / firstOf a) (firstOf a)) _
-      (only-weaker Early Typed (fractionOf (a .strategy) (source / m) (target / (source / m)) (target / firstOf a) (firstOf a)) early-typed (fraction-only (a .strategy) (source / m) (target / (source / m)) (target / firstOf a) (firstOf a)))
+      (only-weaker Other Typed (fractionOf (a .strategy) (source / m) (target / (source / m)) (target / firstOf a) (firstOf a)) other-typed (fraction-only (a .strategy) (source / m) (target / (source / m)) (target / firstOf a) (firstOf a)))
       (λ f. only-next Typed (allowedP odd (dividerP target (a .p))) (ok (settingsOf a g target m (source / m) (target / (source / m)) f)) (allowed-only odd (dividerP target (a .p))) tt))
 
   chosen-only : leb (g .start) target && leb target (g .end) ≡ true → (f : FoundM) → chosenM source target (g .low) (g .high) ≡ f
@@ -159,7 +160,7 @@ module _ (odd : Bool) (source : ℕ) (a : PllRequest) where
 
   runs-only : Only Typed (runs odd source a)
   unfolding runs
-  runs-only = only-next Typed (spanned odd a) _ (only-weaker Early Typed (spanned odd a) early-typed (spanned-only odd a)) divided-only
+  runs-only = only-next Typed (spanned odd a) _ (only-weaker Other Typed (spanned odd a) other-typed (spanned-only odd a)) divided-only
 
 running-only : (x : Result PllSettings) → Only Typed x → Only Typed (running x)
 running-only (refused n) h = h
@@ -188,30 +189,30 @@ plls-only q c =
     (λ x. only-then Typed (pllOf (c .odd2) (sourceOf q) (pll2Asked q)) _ (pll-only (c .odd2) (sourceOf q) (pll2Asked q))
     (λ y. only-then Typed (thirdOf q c) _ (third-only q c) (λ z. tt)))))))
 
-ahb-only : (system : ℕ) (h : Hertz) → Only Late (ahbOf system h)
+ahb-only : (system : ℕ) (h : Hertz) → Only Other (ahbOf system h)
 unfolding ahbOf
 ahb-only system h =
     let hz : ℕ = system / hpreFor system h in
-    only-tested Late (notZero h) BusZero (require (not (eqb hz 0)) AhbZero >> ok (record { pre = hpreFor system h; clock = hz })) refl
-    (only-tested Late (not (eqb hz 0)) AhbZero (ok (record { pre = hpreFor system h; clock = hz })) refl tt)
+    only-tested Other (notZero h) BusZero (require (not (eqb hz 0)) AhbZero >> ok (record { pre = hpreFor system h; clock = hz })) refl
+    (only-tested Other (not (eqb hz 0)) AhbZero (ok (record { pre = hpreFor system h; clock = hz })) refl tt)
 
-apb-only : (ahb : ℕ) (h : Hertz) → Only Late (apbOf ahb h)
+apb-only : (ahb : ℕ) (h : Hertz) → Only Other (apbOf ahb h)
 unfolding apbOf
-apb-only ahb h = only-tested Late (notZero h) BusZero (ok (record { pre = ppreFor ahb h; clock = ahb / ppreFor ahb h })) refl tt
+apb-only ahb h = only-tested Other (notZero h) BusZero (ok (record { pre = ppreFor ahb h; clock = ahb / ppreFor ahb h })) refl tt
 
-pub buses-only : (q : Request) (system : ℕ) → Only Late (busesOf q system)
+pub buses-only : (q : Request) (system : ℕ) → Only Other (busesOf q system)
 unfolding busesOf
 buses-only q system =
-    only-then Late (ahbOf system (q .ahb)) _ (ahb-only system (q .ahb))
-    (λ a. only-then Late (apbOf (a .clock) (q .apb1)) _ (apb-only (a .clock) (q .apb1))
-    (λ x. only-then Late (apbOf (a .clock) (q .apb2)) _ (apb-only (a .clock) (q .apb2))
-    (λ y. only-then Late (apbOf (a .clock) (q .apb3)) _ (apb-only (a .clock) (q .apb3)) (λ z. tt))))
+    only-then Other (ahbOf system (q .ahb)) _ (ahb-only system (q .ahb))
+    (λ a. only-then Other (apbOf (a .clock) (q .apb1)) _ (apb-only (a .clock) (q .apb1))
+    (λ x. only-then Other (apbOf (a .clock) (q .apb2)) _ (apb-only (a .clock) (q .apb2))
+    (λ y. only-then Other (apbOf (a .clock) (q .apb3)) _ (apb-only (a .clock) (q .apb3)) (λ z. tt))))
 
-planned-only : (h : Hertz) → Only Late (planned h)
+planned-only : (h : Hertz) → Only Other (planned h)
 planned-only Unset = refl
 planned-only (Hz h) = tt
 
-mco1-only : (s : Mco1Source) (hse q : Hertz) → Only Late (mco1Input s hse q)
+mco1-only : (s : Mco1Source) (hse q : Hertz) → Only Other (mco1Input s hse q)
 unfolding mco1Input
 mco1-only Mco1Source.Hsi hse q = tt
 mco1-only Mco1Source.Lse hse q = refl
@@ -219,7 +220,7 @@ mco1-only Mco1Source.Hse hse q = tt
 mco1-only Mco1Source.Pll1Q hse q = planned-only q
 mco1-only Mco1Source.Hsi48 hse q = tt
 
-mco2-only : (s : Mco2Source) (system : ℕ) (hse p1 p2 : Hertz) → Only Late (mco2Input s system hse p1 p2)
+mco2-only : (s : Mco2Source) (system : ℕ) (hse p1 p2 : Hertz) → Only Other (mco2Input s system hse p1 p2)
 unfolding mco2Input
 mco2-only Mco2Source.Sysclk system hse p1 p2 = tt
 mco2-only Mco2Source.Pll2P system hse p1 p2 = planned-only p2
@@ -228,48 +229,38 @@ mco2-only Mco2Source.Pll1P system hse p1 p2 = planned-only p1
 mco2-only Mco2Source.Csi system hse p1 p2 = tt
 mco2-only Mco2Source.Lsi system hse p1 p2 = tt
 
-mco-only : (clock : ℕ) (h : Hertz) → Only Late (mcoOf clock h)
+mco-only : (clock : ℕ) (h : Hertz) → Only Other (mcoOf clock h)
 unfolding mcoOf
 mco-only clock Unset = tt
 mco-only clock (Hz h) =
     let ratio : ℕ = ratioOf clock h in
     let fits : Bool = leb 1 ratio && leb ratio 15 in
     let made : Result Mco = ok (record { pre = ratio; clock = Hz (clock / ratio) }) in
-    only-tested Late (not (eqb h 0)) McoZero (require fits McoRatio >> made) refl (only-tested Late fits McoRatio made refl tt)
+    only-tested Other (not (eqb h 0)) McoZero (require fits McoRatio >> made) refl (only-tested Other fits McoRatio made refl tt)
 
-pub mcos-only : (q : Request) (l : Plls) (system : ℕ) → Only Late (mcosOf q l system)
+pub mcos-only : (q : Request) (l : Plls) (system : ℕ) → Only Other (mcosOf q l system)
 unfolding mcosOf
 mcos-only q l system =
-    only-then Late (mco1Input (q .mco1source) (q .hse) (qClock (l .pll1))) _ (mco1-only (q .mco1source) (q .hse) (qClock (l .pll1)))
-    (λ i. only-then Late (mcoOf i (q .mco1)) _ (mco-only i (q .mco1))
-    (λ x. only-then Late (mco2Input (q .mco2source) system (q .hse) (pClock (l .pll1)) (pClock (l .pll2))) _ (mco2-only (q .mco2source) system (q .hse) (pClock (l .pll1)) (pClock (l .pll2)))
-    (λ j. only-then Late (mcoOf j (q .mco2)) _ (mco-only j (q .mco2)) (λ y. tt))))
+    only-then Other (mco1Input (q .mco1source) (q .hse) (qClock (l .pll1))) _ (mco1-only (q .mco1source) (q .hse) (qClock (l .pll1)))
+    (λ i. only-then Other (mcoOf i (q .mco1)) _ (mco-only i (q .mco1))
+    (λ x. only-then Other (mco2Input (q .mco2source) system (q .hse) (pClock (l .pll1)) (pClock (l .pll2))) _ (mco2-only (q .mco2source) system (q .hse) (pClock (l .pll1)) (pClock (l .pll2)))
+    (λ j. only-then Other (mcoOf j (q .mco2)) _ (mco-only j (q .mco2)) (λ y. tt))))
 
-pub ready-only : (c : ChipState) → Only Late (hsiReady c)
-ready-only c = only-tested Late (c .hsion) HsiOff (require (eqb (divisorOf (c .hsidiv)) 2) HsidivNot2) refl (only-require Late (eqb (divisorOf (c .hsidiv)) 2) HsidivNot2 refl)
+pub ready-only : (c : ChipState) → Only Other (hsiReady c)
+ready-only c = only-tested Other (c .hsion) HsiOff (require (eqb (divisorOf (c .hsidiv)) 2) HsidivNot2) refl (only-require Other (eqb (divisorOf (c .hsidiv)) 2) HsidivNot2 refl)
 
 pub chosen-plan-only : (q : Request) (c : ChipState) → Only Typed (chosenPlan q c)
 unfolding chosenPlan
 chosen-plan-only q c =
     only-then Typed (pllsOf q c) _ (plls-only q c)
-    (λ l. only-next Typed (hsiReady c) _ (only-weaker Late Typed (hsiReady c) late-typed (ready-only c))
-    (only-then Typed (busesOf q (systemFrom q l)) _ (only-weaker Late Typed (busesOf q (systemFrom q l)) late-typed (buses-only q (systemFrom q l)))
-    (λ b. only-then Typed (mcosOf q l (systemFrom q l)) _ (only-weaker Late Typed (mcosOf q l (systemFrom q l)) late-typed (mcos-only q l (systemFrom q l))) (λ m. tt))))
+    (λ l. only-next Typed (hsiReady c) _ (only-weaker Other Typed (hsiReady c) other-typed (ready-only c))
+    (only-then Typed (busesOf q (systemFrom q l)) _ (only-weaker Other Typed (busesOf q (systemFrom q l)) other-typed (buses-only q (systemFrom q l)))
+    (λ b. only-then Typed (mcosOf q l (systemFrom q l)) _ (only-weaker Other Typed (mcosOf q l (systemFrom q l)) other-typed (mcos-only q l (systemFrom q l))) (λ m. tt))))
 
--- what a caller reads off the answer
-pub numbered : (n : Refusal) → Typed n → Numbered 3 23 n
-numbered n t =
-    let rest : leb (numberOf n) 23 && not (eqb (numberOf n) 12) ≡ true = and-right (leb 3 (numberOf n)) _ t in
-    record {
-      from = leb-true 3 (numberOf n) (and-left (leb 3 (numberOf n)) _ t);
-      to = leb-true (numberOf n) 23 (and-left (leb (numberOf n) 23) _ rest);
-      not12 = eqb-false (numberOf n) 12 (not-true (eqb (numberOf n) 12) (and-right (leb (numberOf n) 23) _ rest));
-    }
-
-pub typed-numbers : (q : Request) (c : ChipState) (n : Refusal) → answerTo q c .answer ≡ Refused n → Numbered 3 23 n
+pub typed-numbers : (q : Request) (c : ChipState) (n : Refusal) → answerTo q c .answer ≡ Refused n → Typed n
 unfolding answerTo
 typed-numbers q c n e = go (chosenPlan q c) (chosen-plan-only q c) e
   where
-    go : (x : Result Plan) → Only Typed x → answered x .answer ≡ Refused n → Numbered 3 23 n
-    go (refused m) h e = let s : m ≡ n = cc in subst (λ (k : Refusal). Numbered 3 23 k) s (numbered m h)
+    go : (x : Result Plan) → Only Typed x → answered x .answer ≡ Refused n → Typed n
+    go (refused m) h e = let s : m ≡ n = cc in subst Typed s h
     go (ok p) h e = absurd (let z : _≡_ {A = ℕ} 0 1 = cc in omega arith)

@@ -2,7 +2,6 @@
 use mathlib.Core.Path.{_≡_, refl, subst}
 use mathlib.Core.Bool.{Bool, true, false, _&&_, _||_}
 use mathlib.Core.List.{List, [], _∷_}
-use mathlib.Core.Logic.{inl, inr}
 use Prim.Native.Nat.{ℕ, zero, suc}
 use native.Mathlib.Omega.{arith}
 use lib.Dec.{eqb, ltb}
@@ -12,13 +11,15 @@ use Rattle.types.specs.declared.Refusal.{Refusal}
 use Rattle.types.specs.declared.Refusal.the-variants.{OutsideCodes, BankLength}
 use Rattle.types.specs.declared.Plan.{Plan}
 use Rattle.types.specs.declared.Answer.the-variants.{Refused}
+use Rattle.rules.specs.Document01.Refusals.{numberOf}
 use Rattle.rules.specs.Document01.Result.{Result, refused, ok, _>>=_, _>>_, require}
 use Rattle.rules.specs.Document01.Chip.{isBit, isHsidiv, chipOf}
 use Rattle.rules.specs.Document01.Bytes.{Read, Reader, fits, byte, end, code, word, setTo, hertz, flag, mco1Source, mco2Source, strategy, pllPart, thirdPart, requestPart}
 use Rattle.rules.specs.Document01.Plan.{chosenPlan, answered, requestOf, planOf, bankPlanOf}
-use Rattle.rules.specs.Demands.Calls.{ByPlan, ByBank}
+use Rattle.rules.specs.Demands.Calls.{typedNumbers, planNumbers, bankNumbers}
+use Rattle.rules.specs.Manual.Tree.{among}
 use Rattle.rules.proofs.Document01.Results.{Only, only-require, only-then, only-next}
-use Rattle.rules.proofs.Document01.Refusals.{Typed, chosen-plan-only, numbered}
+use Rattle.rules.proofs.Document01.Refusals.{Typed, among-more, chosen-plan-only}
 
 -- ---- reading refuses with 1
 module _ (P : Refusal → Type 0) (one : P OutsideCodes) where
@@ -119,6 +120,12 @@ pub outside-codes : (bytes : List ℕ) (chip : Chip) (n : Refusal) → requestOf
 outside-codes bytes chip n e = subst (Only (λ m. m ≡ OutsideCodes)) e (asked-only (λ m. m ≡ OutsideCodes) refl bytes chip)
 
 -- ---- the calls
+abbrev ByPlan : Refusal → Type 0
+ByPlan n = among planNumbers (numberOf n) ≡ true
+
+abbrev ByBank : Refusal → Type 0
+ByBank n = among bankNumbers (numberOf n) ≡ true
+
 more : (P Q : Refusal → Type 0) → ((n : Refusal) → P n → Q n) → {A : Type 0} (x : Result A) → Only P x → Only Q x
 more P Q f (refused n) h = f n h
 more P Q f (ok a) h = tt
@@ -129,8 +136,8 @@ read-off P (ok p) n h e = absurd (let z : _≡_ {A = ℕ} 0 1 = cc in omega arit
 
 plan-only : (bytes : List ℕ) (chip : Chip) → Only ByPlan (requestOf bytes chip >>= λ a. chosenPlan (a .request) (a .chip))
 plan-only bytes chip =
-    only-then ByPlan (requestOf bytes chip) (λ a. chosenPlan (a .request) (a .chip)) (asked-only ByPlan (inl refl) bytes chip)
-    (λ a. more Typed ByPlan (λ m h. inr (numbered m h)) (chosenPlan (a .request) (a .chip)) (chosen-plan-only (a .request) (a .chip)))
+    only-then ByPlan (requestOf bytes chip) (λ a. chosenPlan (a .request) (a .chip)) (asked-only ByPlan refl bytes chip)
+    (λ a. more Typed ByPlan (λ m. among-more typedNumbers planNumbers refl (numberOf m)) (chosenPlan (a .request) (a .chip)) (chosen-plan-only (a .request) (a .chip)))
 
 pub plan-numbers : (bytes : List ℕ) (chip : Chip) (n : Refusal) → planOf bytes chip .answer ≡ Refused n → ByPlan n
 unfolding planOf
@@ -138,9 +145,9 @@ plan-numbers bytes chip n e = read-off ByPlan (requestOf bytes chip >>= λ a. ch
 
 bank-only : (bytes : List ℕ) (chip : Chip) (words : ℕ) → Only ByBank (requestOf bytes chip >>= λ a. require (eqb words 82) BankLength >> chosenPlan (a .request) (a .chip))
 bank-only bytes chip words =
-    only-then ByBank (requestOf bytes chip) (λ a. require (eqb words 82) BankLength >> chosenPlan (a .request) (a .chip)) (asked-only ByBank (inr (inl refl)) bytes chip)
-    (λ a. only-next ByBank (require (eqb words 82) BankLength) (chosenPlan (a .request) (a .chip)) (only-require ByBank (eqb words 82) BankLength (inl refl))
-    (more Typed ByBank (λ m h. inr (inr (numbered m h))) (chosenPlan (a .request) (a .chip)) (chosen-plan-only (a .request) (a .chip))))
+    only-then ByBank (requestOf bytes chip) (λ a. require (eqb words 82) BankLength >> chosenPlan (a .request) (a .chip)) (asked-only ByBank refl bytes chip)
+    (λ a. only-next ByBank (require (eqb words 82) BankLength) (chosenPlan (a .request) (a .chip)) (only-require ByBank (eqb words 82) BankLength refl)
+    (more Typed ByBank (λ m. among-more typedNumbers bankNumbers refl (numberOf m)) (chosenPlan (a .request) (a .chip)) (chosen-plan-only (a .request) (a .chip))))
 
 pub bank-numbers : (bytes : List ℕ) (chip : Chip) (words : ℕ) (n : Refusal) → bankPlanOf bytes chip words .answer ≡ Refused n → ByBank n
 unfolding bankPlanOf

@@ -1,6 +1,5 @@
 -- The demands of the two calls rule these out. Each line above a theorem names the weakening that would let it pass.
-use mathlib.Core.Path.{_≡_, refl, ap}
-use mathlib.Core.Logic.{⊎-elim}
+use mathlib.Core.Path.{_≡_, refl, sym, ap}
 use mathlib.Core.Bool.{true, false}
 use mathlib.Core.List.{List, [], _∷_}
 use mathlib.Core.Option.{Option, none, some}
@@ -25,8 +24,9 @@ use Rattle.rules.specs.Document01.Entries.{entriesOf}
 use Rattle.rules.specs.Document01.Bank.{resetBank}
 use Rattle.rules.specs.Manual.Tree.{sys}
 use Rattle.rules.specs.Demands.Applied.{Applied}
-use Rattle.rules.specs.Demands.Calls.{ByPlan, ByBank, Answered, Kept, AsFreeze, IsLegal, ReadTwice, BankReadTwice}
+use Rattle.rules.specs.Demands.Calls.{planNumbers, bankNumbers, Answered, Kept, AsFreeze, IsLegal, ReadTwice, BankReadTwice}
 use Rattle.rules.specs.Demands.Rows.{_when_, AsRows}
+use Rattle.laws.proofs.Tests.{never}
 use Rattle.rules.proofs.Computes.{byRules, byBank}
 use Rattle.rules.proofs.Samples.{nothing, plls3, chip, state, a, planA}
 use Rattle.rules.proofs.Readings.NonVacuous as NonVacuous
@@ -37,32 +37,32 @@ use Rattle.rules.proofs.Unweakened.Readings.{slower-a}
 
 -- ---- demand 1
 -- numbers that no call of a planner's gives: 12 and 24; and 2 by the planner's call
-pub number-12 : Answered ByPlan (refusing NOutside) → ⊥
-number-12 h = ⊎-elim (λ e. omega (arith, e)) (λ n. n .not12 refl) (h .refusal NOutside refl)
+pub number-12 : Answered planNumbers (refusing NOutside) → ⊥
+number-12 h = never (sym (h .refusal NOutside refl))
 
-pub number-12-bank : Answered ByBank (refusing NOutside) → ⊥
-number-12-bank h = ⊎-elim (λ e. omega (arith, e)) (λ p. ⊎-elim (λ e. omega (arith, e)) (λ n. n .not12 refl) p) (h .refusal NOutside refl)
+pub number-12-bank : Answered bankNumbers (refusing NOutside) → ⊥
+number-12-bank h = never (sym (h .refusal NOutside refl))
 
-pub number-24 : Answered ByPlan (refusing CsiDown) → ⊥
-number-24 h = ⊎-elim (λ e. omega (arith, e)) (λ n. omega (arith, n .to)) (h .refusal CsiDown refl)
+pub number-24 : Answered planNumbers (refusing CsiDown) → ⊥
+number-24 h = never (sym (h .refusal CsiDown refl))
 
-pub number-24-bank : Answered ByBank (refusing CsiDown) → ⊥
-number-24-bank h = ⊎-elim (λ e. omega (arith, e)) (λ p. ⊎-elim (λ e. omega (arith, e)) (λ n. omega (arith, n .to)) p) (h .refusal CsiDown refl)
+pub number-24-bank : Answered bankNumbers (refusing CsiDown) → ⊥
+number-24-bank h = never (sym (h .refusal CsiDown refl))
 
-pub number-2 : Answered ByPlan (refusing BankLength) → ⊥
-number-2 h = ⊎-elim (λ e. omega (arith, e)) (λ n. omega (arith, n .from)) (h .refusal BankLength refl)
+pub number-2 : Answered planNumbers (refusing BankLength) → ⊥
+number-2 h = never (sym (h .refusal BankLength refl))
 
 -- a plan beside a refusal
-pub not-blank : Answered ByPlan (record { answer = Refused AboveLimit; plan = planA .plan }) → ⊥
+pub not-blank : Answered planNumbers (record { answer = Refused AboveLimit; plan = planA .plan }) → ⊥
 unfolding byRules
 not-blank h = let z : _≡_ {A = ℕ} 250_000_000 0 = ap (λ (p : Plan). p .sys) (h .blank AboveLimit refl) in omega arith
 
 -- fewer than 21 entries, or more than 69. No plan has them, so the claim itself is taken at its word
-pub from-21 : (Listed : Refusal → Type 0) (x : Planned) → Answered Listed x → x .answer ≡ Accepted → 21 ≤ length (entriesOf x)
-from-21 Listed x h e = h .plan e .0
+pub from-21 : (ns : List ℕ) (x : Planned) → Answered ns x → x .answer ≡ Accepted → 21 ≤ length (entriesOf x)
+from-21 ns x h e = h .plan e .0
 
-pub to-69 : (Listed : Refusal → Type 0) (x : Planned) → Answered Listed x → x .answer ≡ Accepted → length (entriesOf x) ≤ 69
-to-69 Listed x h e = h .plan e .1
+pub to-69 : (ns : List ℕ) (x : Planned) → Answered ns x → x .answer ≡ Accepted → length (entriesOf x) ≤ 69
+to-69 ns x h e = h .plan e .1
 
 -- both are reached: a request for nothing, and HSE 24,000,000 with P 12,288,000, Q 6,144,000, R 3,072,000 of three PLLs in Fractional strategy
 abbrev every : PllRequest
@@ -75,8 +75,8 @@ pub shortest-and-longest : length (entriesOf (planOf (requestBytes false nothing
 unfolding byBank
 shortest-and-longest = refl
 
-pub no-entries : (Listed : Refusal → Type 0) (x : Planned) (n : Refusal) → Answered Listed x → x .answer ≡ Refused n → entriesOf x ≡ []
-no-entries Listed x n h e = h .none n e
+pub no-entries : (ns : List ℕ) (x : Planned) (n : Refusal) → Answered ns x → x .answer ≡ Refused n → entriesOf x ≡ []
+no-entries ns x n h e = h .none n e
 
 -- a word of the bank written by a call that is refused, with any number
 pub word-written : (n : Refusal) → Kept (refusing n) (0 ∷ []) (1 ∷ []) → ⊥

@@ -27,7 +27,7 @@ use Rattle.rules.specs.Rust.Run.{Outcome, panics, ends}
 use Rattle.rules.specs.Rust.CoreClocks.{CoreClocks}
 use Rattle.rules.specs.Rust.Rcc.{frozen}
 use Rattle.rules.specs.Manual.Path.{Path, pllOn, num, den, floored, NoRemainder, Near, Readings}
-use Rattle.rules.specs.Manual.Tree.{Clock, along, pathOf}
+use Rattle.rules.specs.Manual.Tree.{Clock, among, along, pathOf}
 use Rattle.rules.specs.Manual.WaitStates.{rows, highest, waits, asks}
 use Rattle.rules.specs.Demands.Report.{reported}
 use Rattle.rules.specs.Document01.Walk.{Stand, steppedOf}
@@ -52,11 +52,11 @@ module _ (bytes : List ℕ) (chip : Chip) (x : Planned) (a : Asked) (e : request
   bank-read-twice b b₁ h = h a e
 
 module _ (x : Planned) (n : Refusal) (e : x .answer ≡ Refused n) where
-  pub listed : (Listed : Refusal → Type 0) → Answered Listed x → Listed n
-  listed Listed h = h .refusal n e
+  pub listed : (ns : List ℕ) → Answered ns x → among ns (numberOf n) ≡ true
+  listed ns h = h .refusal n e
 
-  pub blank : (Listed : Refusal → Type 0) → Answered Listed x → x .plan ≡ blankPlan
-  blank Listed h = h .blank n e
+  pub blank : (ns : List ℕ) → Answered ns x → x .plan ≡ blankPlan
+  blank ns h = h .blank n e
 
   pub kept : (b b₁ : List ℕ) → Kept x b b₁ → b₁ ≡ b
   kept b b₁ h = h n e

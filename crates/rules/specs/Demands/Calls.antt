@@ -1,8 +1,8 @@
 -- The customer's three demands, of an answer x to the bytes of a request and the numbers of a chip: what the two calls of crates/rcc promise.
 -- `requestOf bytes chip ≡ ok a` says that the bytes are a request: the others are refused with 1 (document 01, Refusals).
 use mathlib.Core.Path.{_≡_}
-use mathlib.Core.Logic.{_⊎_}
-use mathlib.Core.List.{List, []}
+use mathlib.Core.Bool.{true}
+use mathlib.Core.List.{List, [], _∷_}
 use Prim.Native.Nat.{ℕ, _≤_}
 use lib.ListN.{length}
 use Rattle.types.specs.declared.Chip.{Chip}
@@ -14,29 +14,28 @@ use Rattle.rules.specs.Document01.Refusals.{numberOf}
 use Rattle.rules.specs.Document01.Plan.{blankPlan, Asked, requestOf}
 use Rattle.rules.specs.Document01.Entries.{entriesOf}
 use Rattle.rules.specs.Rust.Rcc.{frozen}
+use Rattle.rules.specs.Manual.Tree.{among}
 use Rattle.rules.specs.Demands.Agreement.{Agreement}
 use Rattle.rules.specs.Demands.Legal.{LegalPlan}
 use Rattle.rules.specs.Demands.Readings.{Reads, BankReads}
 
 -- ---- demand 1
--- a listed number from low to high; 12 is listed and never occurs
-pub record Numbered (low high : ℕ) (n : Refusal) : Type 0 where
-  pub from : low ≤ numberOf n
-  pub to : numberOf n ≤ high
-  pub not12 : numberOf n ≡ 12 → ⊥
+-- what a typed request can be refused with; 12 is listed by document 01 and fits no request
+abbrev pub typedNumbers : List ℕ
+typedNumbers = 3 ∷ 4 ∷ 5 ∷ 6 ∷ 7 ∷ 8 ∷ 9 ∷ 10 ∷ 11 ∷ 13 ∷ 14 ∷ 15 ∷ 16 ∷ 17 ∷ 18 ∷ 19 ∷ 20 ∷ 21 ∷ 22 ∷ 23 ∷ []
 
--- the planner's call: 1, or 3 to 23
-abbrev pub ByPlan : Refusal → Type 0
-ByPlan n = (numberOf n ≡ 1) ⊎ Numbered 3 23 n
+-- the planner's call: 1 too
+abbrev pub planNumbers : List ℕ
+planNumbers = 1 ∷ typedNumbers
 
--- the bank call: 1, 2, or 3 to 23
-abbrev pub ByBank : Refusal → Type 0
-ByBank n = (numberOf n ≡ 2) ⊎ ByPlan n
+-- the bank call: 1 and 2 too
+abbrev pub bankNumbers : List ℕ
+bankNumbers = 1 ∷ 2 ∷ typedNumbers
 
 -- one complete plan, with 21 to 69 entries; or one listed refusal, with the blank plan and no entry
-pub record Answered (Listed : Refusal → Type 0) (x : Planned) : Type 0 where
+pub record Answered (listed : List ℕ) (x : Planned) : Type 0 where
   pub plan : x .answer ≡ Accepted → (21 ≤ length (entriesOf x)) × (length (entriesOf x) ≤ 69)
-  pub refusal : (n : Refusal) → x .answer ≡ Refused n → Listed n
+  pub refusal : (n : Refusal) → x .answer ≡ Refused n → among listed (numberOf n) ≡ true
   pub blank : (n : Refusal) → x .answer ≡ Refused n → x .plan ≡ blankPlan
   pub none : (n : Refusal) → x .answer ≡ Refused n → entriesOf x ≡ []
 

@@ -67,7 +67,7 @@ over none d = none
 over (along p) zero = none
 over (along p) (suc d) = along (extend p (suc d))
 
--- whether a word is one of these codes
+-- whether a number is one of these
 abbrev pub among : List ℕ → ℕ → Bool
 among [] w = false
 among (c ∷ cs) w = eqb w c || among cs w
