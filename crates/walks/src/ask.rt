@@ -1,6 +1,7 @@
 // Bench settings A and C of document 01, planned.
 use types::ChipState;
 use types::Hertz;
+use types::Hsidiv;
 use types::Mco1Source;
 use types::Mco2Source;
 use types::Planned;
@@ -47,7 +48,7 @@ fn planned(q: Request, odd: bool) -> Planned {
         odd3: odd,
         scale: Scale::Scale0,
         hsion: true,
-        hsidiv: 2,
+        hsidiv: Hsidiv::Div2,
     };
     freeze::answer_to(q, c)
 }
