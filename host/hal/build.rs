@@ -27,10 +27,16 @@ fn main() {
     let mut table = String::from("extern crate standin;\n");
     let mut rows = String::new();
     let mut quiet = String::new();
-    let (there, why) = match sources() {
-        Err((there, why)) => {
+    let said = env::var_os("HAL_SRC").map(PathBuf::from);
+    let beside = || Path::new(&variable("CARGO_MANIFEST_DIR")).join("../../../shared/docs/src");
+    let folder = said.clone().unwrap_or_else(beside);
+    let there = said.is_some() || folder.exists();
+    let why = match sources(&folder) {
+        Err(why) => {
             println!("cargo:warning=nothing to compare with: {why}");
-            (there, why)
+            // a file that is never there: the sources are looked for again each time
+            println!("cargo:rerun-if-changed={}", out.join("none").display());
+            why
         }
         Ok(source) => {
             for file in SOURCES {
@@ -46,33 +52,26 @@ fn main() {
                 writeln!(table, "extern crate {name};").unwrap();
                 writeln!(quiet, "Quiet {{ plls: {plls}, time_freeze: {name}::time_freeze }},").unwrap();
             }
-            (true, format!("compiled unchanged from {}", source.display()))
+            format!("compiled unchanged from {}", source.display())
         }
     };
     writeln!(table, "/// The variants; none without the sources.\npub static VARIANTS: &[Variant] = &[\n{rows}];").unwrap();
     writeln!(table, "/// Over the stand-in that keeps no record.\npub static QUIET: &[Quiet] = &[\n{quiet}];").unwrap();
     writeln!(table, "/// Where the sources are, or why there is no variant.\npub const SOURCES: &str = {why:?};").unwrap();
-    writeln!(
-        table,
-        "/// Whether there are sources to compare with: then a run without variants has failed.\npub const THERE: bool = {there};"
-    )
-    .unwrap();
+    writeln!(table, "/// Whether the sources' folder is there, or HAL_SRC names one: then a run without variants has failed.").unwrap();
+    writeln!(table, "pub const THERE: bool = {there};").unwrap();
     write(&out.join("variants.rs"), &table);
 }
 
-/// The folder with rcc.rs: where HAL_SRC says, or beside the project. An error says whether there are sources, or someone says so, and why
-/// they are not compiled.
-fn sources() -> Result<PathBuf, (bool, String)> {
-    let said = env::var("HAL_SRC").ok();
-    let beside = Path::new(&variable("CARGO_MANIFEST_DIR")).join("../../../shared/docs/src");
-    let folder = said.as_ref().map_or(beside, PathBuf::from);
+/// The folder with rcc.rs, this one or its src; or why there are no sources to compile.
+fn sources(folder: &Path) -> Result<PathBuf, String> {
     let found = [folder.to_path_buf(), folder.join("src")];
     let source = found.iter().find(|at| SOURCES.iter().all(|file| at.join(file).is_file()));
-    let none = (said.is_some(), format!("no HAL sources at {} (HAL_SRC says where)", folder.display()));
-    let source = source.ok_or(none)?;
+    let none = if folder.exists() { "not all HAL sources" } else { "no HAL sources" };
+    let source = source.ok_or_else(|| format!("{none} at {} (HAL_SRC says where)", folder.display()))?;
     match minor_version() {
-        Some(minor) if minor >= 73 => source.canonicalize().map_err(|error| (true, error.to_string())),
-        _ => Err((true, "the HAL sources need rustc 1.73 (u32::div_ceil)".into())),
+        Some(minor) if minor >= 73 => source.canonicalize().map_err(|error| error.to_string()),
+        _ => Err("the HAL sources need rustc 1.73 (u32::div_ceil)".into()),
     }
 }
 

@@ -2,6 +2,7 @@
 use clock_api::{raw, Bank, Bytes, Chip, Request};
 use hal::{Asked, Quiet};
 use requests::Random;
+use std::process::exit;
 use std::time::Instant;
 
 const REQUESTS: usize = 4_000;
@@ -15,8 +16,8 @@ struct Sample {
 
 fn main() {
     if hal::QUIET.is_empty() {
-        println!("bench: skipped, {}", hal::SOURCES);
-        return;
+        println!("bench: {}, {}", if hal::THERE { "failed" } else { "skipped" }, hal::SOURCES);
+        exit(hal::THERE as i32);
     }
     let rounds = std::env::args().nth(1).and_then(|text| text.parse().ok()).unwrap_or(25);
     for chip in [Chip::two_plls(), Chip::three_plls()] {
@@ -29,16 +30,17 @@ fn main() {
     println!("every row; the rows take turns, and each has the best of {rounds} rounds, measured");
     println!("twice. freeze is the Rust's setters and freeze, unchanged sources, overflow");
     println!("checks on, over a stand-in that stores each field in a word and answers every");
-    println!("poll at once: no time of real registers is in it. It gives the clocks and");
-    println!("sets the registers; a C function plans once for what its row says.");
+    println!("poll at once: no time of real registers is in it. The second row comes from the");
+    println!("same request to the same clocks and registers, by two calls that each plan it;");
+    println!("the rows below are one call each, on bytes made before.");
 }
 
 /// How far two measurements may differ, and how often they are made again.
 const DISTURBED: f64 = 1.05;
 const AGAIN: u32 = 5;
 
-/// The best of the rounds for each piece of work, in ns a time. It is measured twice; two measurements that differ were disturbed, and another
-/// is made.
+/// The best of the rounds for each piece of work, in ns a time. It is measured twice; two measurements that differ were disturbed, and
+/// another is made.
 fn best<const N: usize>(rounds: u32, times: usize, mut work: [&mut dyn FnMut(); N]) -> [f64; N] {
     let mut last = measured(rounds, times, &mut work);
     for _ in 0..AGAIN {
@@ -76,28 +78,35 @@ fn keep<T>(value: &T) {
 fn table(chip: &Chip, quiet: &Quiet, rounds: u32) {
     let samples = samples(chip);
     let numbers = chip.to_bytes();
-    let mut report = [0; raw::REPORT];
+    let (mut report, mut bank) = ([0; raw::REPORT], Bank::reset());
+    let (mut clocks, mut registers) = (report, bank);
     let mut list = [0; raw::LIST];
-    let mut bank = Bank::reset();
-    let [freeze, bytes, plan, store, entries] = best(
+    let [freeze, both, plan, store, entries, bytes] = best(
         rounds,
         REQUESTS,
         [
             &mut || samples.iter().for_each(|sample| quiet.time_freeze(&sample.asked)),
-            &mut || samples.iter().for_each(|sample| keep(&sample.request.to_bytes(chip))),
+            &mut || {
+                samples.iter().for_each(|sample| {
+                    let bytes = sample.request.to_bytes(chip);
+                    keep(&raw::plan(&bytes, &numbers, &mut clocks));
+                    keep(&raw::bank(&bytes, &numbers, &mut registers.words))
+                })
+            },
             &mut || samples.iter().for_each(|sample| keep(&raw::plan(&sample.bytes, &numbers, &mut report))),
             &mut || samples.iter().for_each(|sample| keep(&raw::bank(&sample.bytes, &numbers, &mut bank.words))),
             &mut || samples.iter().for_each(|sample| keep(&raw::entries(&sample.bytes, &numbers, &mut list))),
+            &mut || samples.iter().for_each(|sample| keep(&sample.request.to_bytes(chip))),
         ],
     );
     println!("{} PLLs{:>52}{:>13}", chip.plls as u8, "ns a request", "of freeze");
     for (name, time) in [
         ("setters and freeze: clocks and registers", freeze),
-        ("clock_plan, then clock_bank: clocks and registers", plan + store),
-        ("clock_plan: clocks, in 55 words", plan),
-        ("clock_bank: registers, in 82 words", store),
-        ("clock_entries: the list, in 622 words", entries),
-        ("Request::to_bytes: the bytes that each of these takes", bytes),
+        ("to_bytes, clock_plan, clock_bank: the same", both),
+        ("clock_plan alone: clocks, in 55 words", plan),
+        ("clock_bank alone: registers, in 82 words", store),
+        ("clock_entries alone: the list, in 622 words", entries),
+        ("to_bytes alone: the bytes that a call takes", bytes),
     ] {
         println!("  {name:<54}{time:>10.1}{:>13.2}", time / freeze);
     }

@@ -24,7 +24,8 @@ pub struct Pll {
     pub outputs: [Option<(u32, u32)>; 3],
 }
 
-/// What is chosen for one PLL of a source of so many hertz; none where nothing is requested. `odd` says whether P may divide by an odd number.
+/// What is chosen for one PLL of a source of so many hertz; none where nothing is requested. `odd` says whether P may divide by an odd
+/// number.
 pub fn pll(odd: bool, source: u32, request: &PllRequest) -> Result<Option<Pll>, Refusal> {
     let mut w = [0; raw::PLL];
     Refusal::of(raw::pll(odd as u32, source, &request.to_bytes(), &mut w))?;

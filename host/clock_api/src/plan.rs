@@ -65,15 +65,20 @@ pub struct Plan {
 }
 
 impl Plan {
-    /// A clock's hertz, if it is reported. Through no PLL they are what the chip's clock tree gives, or lower by less than 1 Hz; through a PLL
-    /// in Integer, or lower by less than 1 + N / D Hz (N multiplies, D is the product of the later divisors): never above. In Fractional the steps are `f32` operations, and the hertz can be above what the tree gives:
+    /// A clock's hertz, if it is reported. Through no PLL they are what the chip's clock tree gives, or lower by less than 1 Hz; through a
+    /// PLL in Integer, or lower by less than 1 + N / D Hz (N multiplies, D is the product of the later divisors): never above. In
+    /// Fractional the steps are `f32` operations, and the hertz can be above what the tree gives:
     ///
     /// ```
-    /// # use clock_api::{plan, Chip, Clock, PllRequest, Request, Strategy};
+    /// # use clock_api::{plan, pll, Chip, Clock, PllRequest, Request, Strategy};
     /// let audio = PllRequest { strategy: Strategy::Fractional, p: Some(320_438_000), ..PllRequest::default() };
     /// let request = Request { hse: Some(24_576_000), plls: [PllRequest::default(), audio, PllRequest::default()], ..Request::default() };
-    /// // the tree gives 320,438,000
     /// assert_eq!(plan(&request, &Chip::two_plls())?.hertz(Clock::Pll2P), Some(320_438_016));
+    ///
+    /// // the tree gives HSE / M x (N + FRACN / 8192) / P
+    /// let chosen = pll(true, 24_576_000, &audio)?.unwrap();
+    /// let [n, fracn, m, p] = [chosen.n, chosen.fracn.unwrap(), chosen.m, chosen.outputs[0].unwrap().0].map(u64::from);
+    /// assert_eq!(24_576_000 * (8192 * n + fracn), 320_438_000 * (8192 * m * p));
     /// # Ok::<(), clock_api::Refusal>(())
     /// ```
     ///

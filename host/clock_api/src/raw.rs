@@ -134,7 +134,7 @@ pub fn timer(hclk: u32, ppre: u32) -> u32 {
     unsafe { c::clock_timer(hclk, ppre) }
 }
 
-/// A clock output's prescaler and clock for the clock of its source, in `out`, of three words: the prescaler, 0 or 1, the hertz.
+/// A clock output's prescaler and clock for the clock of its source, likewise, in `out`, of three words: the prescaler, 0 or 1, the hertz.
 #[inline]
 pub fn mco(clock: u32, set: u32, hertz: u32, out: &mut [u32]) -> u32 {
     unsafe { c::clock_mco(clock, set, hertz, out.as_mut_ptr(), out.len()) }

@@ -1,12 +1,12 @@
-//! Refusals: docs/CODES.md has the table.
+//! Refusals: docs/CODES.md has the table, to which scripts/check-docs holds the list here.
 use core::fmt;
 
 /// Why a request gets no plan: a listed number, the same for every board and release.
 #[derive(Clone, Copy, PartialEq, Eq, Hash)]
 pub struct Refusal(u32);
 
-/// The number of each, and what it says.
-const TEXTS: &[(u32, &str)] = &[
+/// Every refusal by its number, and what it says. The numbers rise; one that is not here is no refusal.
+pub const REFUSALS: &[(u32, &str)] = &[
     (1, "a byte or number outside its codes, or a wrong length"),
     (2, "a bank that is not 82 words"),
     (3, "system, AHB or an APB requested above 250,000,000 Hz"),
@@ -53,7 +53,7 @@ impl Refusal {
 
     /// What it says, in a few words.
     pub fn text(self) -> &'static str {
-        TEXTS.iter().find(|row| row.0 == self.0).map_or("not a refusal of this release", |row| row.1)
+        REFUSALS.iter().find(|row| row.0 == self.0).map_or("not a refusal of this release", |row| row.1)
     }
 }
 

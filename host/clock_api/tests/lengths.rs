@@ -36,6 +36,29 @@ fn what_is_lent_to_the_calls() {
     }
 }
 
+/// Slices of the right length: the words beside them stay, and so do those behind a list's last entry and the fields that no entry sets.
+#[test]
+fn what_stays() {
+    let (request, chip) = asked();
+    let stored = |length: usize, call: &dyn Fn(&mut [u32]) -> u32| {
+        let mut words = vec![WORD; length + 2 * GUARD];
+        assert_eq!(call(&mut words[GUARD..GUARD + length]), 0);
+        let (before, behind) = (&words[..GUARD], &words[GUARD + length..]);
+        assert!(before.iter().chain(behind).all(|word| *word == WORD), "a word beside {length} is changed");
+        words[GUARD..GUARD + length].to_vec()
+    };
+    let report = stored(raw::REPORT, &|words| raw::plan(&request, &chip, words));
+    assert!(report.iter().all(|word| *word != WORD));
+    let list = stored(raw::LIST, &|words| raw::entries(&request, &chip, words));
+    let (entries, behind) = list[1..].split_at(9 * list[0] as usize);
+    assert!(entries.iter().all(|word| *word != WORD) && behind.iter().all(|word| *word == WORD));
+    let bank = stored(raw::BANK, &|words| raw::bank(&request, &chip, words));
+    for (field, word) in bank.iter().enumerate() {
+        let sets = |nine: &[u32]| nine[0] == 1 && nine[1..].chunks(2).any(|pair| pair[0] == field as u32 + 1);
+        assert_eq!(*word != WORD, entries.chunks(9).any(sets), "field {field}");
+    }
+}
+
 #[test]
 fn requests_and_chips() {
     let (request, chip) = asked();
@@ -47,11 +70,12 @@ fn requests_and_chips() {
             }
         }
     }
+    let long = [&chip[..], &[0; 64]].concat();
     for length in others(chip.len()) {
-        let chip = [2u8; 64];
-        assert_eq!(lent(raw::REPORT, |words| raw::plan(&request, &chip[..length], words)), 1, "a chip of {length}");
-        assert_eq!(lent(raw::LIST, |words| raw::entries(&request, &chip[..length], words)), 1, "a chip of {length}");
-        assert_eq!(lent(raw::BANK, |words| raw::bank(&request, &chip[..length], words)), 1, "a chip of {length}");
+        let chip = &long[..length];
+        assert_eq!(lent(raw::REPORT, |words| raw::plan(&request, chip, words)), 1, "a chip of {length}");
+        assert_eq!(lent(raw::LIST, |words| raw::entries(&request, chip, words)), 1, "a chip of {length}");
+        assert_eq!(lent(raw::BANK, |words| raw::bank(&request, chip, words)), 1, "a chip of {length}");
     }
 }
 
@@ -72,6 +96,26 @@ fn what_is_lent_to_the_leaves() {
         assert_eq!(lent(length, |words| raw::mco(32_000_000, 0, 0, words)), 1);
         assert_eq!(lent(length, |words| raw::reset_reason(2, 0, words)), 1);
     }
+}
+
+/// Numbers outside their codes, in slices of the right length: refused likewise.
+#[test]
+fn what_the_leaves_are_told() {
+    for other in [2, 3, 256, u32::MAX] {
+        assert_eq!(lent(raw::PLL, |words| raw::pll(other, 32_000_000, &[0; raw::PART], words)), 1);
+        assert_eq!(lent(2, |words| raw::ahb(32_000_000, other, 32_000_000, words)), 1);
+        assert_eq!(lent(2, |words| raw::apb(32_000_000, other, 32_000_000, words)), 1);
+        assert_eq!(lent(3, |words| raw::mco(32_000_000, other, 32_000_000, words)), 1);
+    }
+    for plls in [0, 1, 4, u32::MAX] {
+        assert_eq!(lent(3, |words| raw::reset_reason(plls, 0, words)), 1);
+    }
+    // refused by what was asked for
+    assert_eq!(lent(2, |words| raw::ahb(32_000_000, 1, 0, words)), 18);
+    assert_eq!(lent(2, |words| raw::ahb(100, 1, 1, words)), 19);
+    assert_eq!(lent(2, |words| raw::apb(32_000_000, 1, 0, words)), 18);
+    assert_eq!(lent(3, |words| raw::mco(32_000_000, 1, 0, words)), 22);
+    assert_eq!(lent(3, |words| raw::mco(32_000_000, 1, 1, words)), 23);
 }
 
 /// A walk has no wrong length: it stores as much as there is room and values for, nine words each.

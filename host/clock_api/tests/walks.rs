@@ -1,6 +1,8 @@
 //! Walks through the safe functions: a list in order over values that pass each entry, a wait again, the check, a refusal.
 use clock_api::{entries, voltage_walk, walk, Chip, Entry, Kind, Request, Scale, Shown};
 
+const WORD: u32 = 0x5AA5_A55A;
+
 fn shown(words: &[[u32; 9]]) -> Vec<Shown> {
     words.iter().map(|nine| Shown::from_words(*nine).expect("something shown")).collect()
 }
@@ -43,6 +45,24 @@ fn a_wait_again_and_the_check() {
     assert_eq!(all[check], Shown::Next(list[check - 1]));
     for after in &all[check + 1..] {
         assert!(matches!(after, Shown::Refused(refusal) if refusal.number() == 24));
+    }
+}
+
+/// As many are shown as there is room and values for, and the rest of the room stays.
+#[test]
+fn room_and_values() {
+    let (chip, request) = (Chip::two_plls(), Request::default());
+    let walks: [&dyn Fn(&[[u32; 2]], &mut [[u32; 9]]) -> usize; 2] =
+        [&|reads, shown| walk(&request, &chip, reads, shown), &|reads, shown| voltage_walk(Scale::Scale2, reads, shown)];
+    for walk in walks {
+        for (room, values) in (0..36).map(|k| (k / 6, k % 6)) {
+            let mut words = [[WORD; 9]; 8];
+            let count = walk(&[[1, 1]; 6][..values], &mut words[1..1 + room]);
+            assert_eq!(count, room.min(values + 1));
+            assert!(words[1..1 + count].iter().all(|nine| !nine.contains(&WORD)));
+            let kept = |nine: &[u32; 9]| *nine == [WORD; 9];
+            assert!(kept(&words[0]) && words[1 + count..].iter().all(kept), "room for {room}, {values} values");
+        }
     }
 }
 

@@ -1,10 +1,12 @@
 //! One request through the C functions and through the sources, word by word.
 use crate::coverage::Coverage;
-use crate::judge::{self, Chip, Want};
+use crate::departures::{expected, Answer, Cause, Expected};
+use crate::judge::{self, Chip};
 use crate::leaves;
 use clock_api::{raw, Bank, Entry};
-use hal::{Asked, Record, Run, State, Variant};
+use hal::{Asked, Record, State, Variant};
 use requests::{Case, Kind, Random, KINDS};
+use std::collections::BTreeMap;
 
 /// What was compared.
 #[derive(Default)]
@@ -12,7 +14,7 @@ pub struct Tally {
     /// By kind: requests, plans, refusals.
     pub kinds: [[u64; 3]; KINDS.len()],
     /// By number.
-    pub refusals: [u64; 25],
+    pub refusals: BTreeMap<u32, u64>,
     /// Refused with 14 or 15, and the sources ran to an end.
     pub departures: [u64; 2],
     /// Requests inside their codes that no setter builds.
@@ -108,10 +110,8 @@ impl Comparison {
         let row = &mut self.tally.kinds[kind as usize];
         row[0] += 1;
         row[if number == 0 { 1 } else { 2 }] += 1;
-        if let Some(count) = self.tally.refusals.get_mut(number as usize) {
-            *count += 1;
-        }
         if number != 0 {
+            *self.tally.refusals.entry(number).or_default() += 1;
             self.tally.coverage.refusal(number);
         }
     }
@@ -150,44 +150,44 @@ impl Comparison {
         check(case.meant.map_or(true, |meant| meant.asked == *asked), || format!("the wrapper's bytes say {asked:?}"))?;
         if !asked.by_setters() {
             self.tally.by_no_setter += 1;
+            self.tally.coverage.by_no_setter();
         }
         let variant = Variant::find(chip.plls, chip.odd).ok_or("no variant of the sources")?;
         let state = State { hsion: chip.hsion, hsidiv: chip.hsidiv, ..State::default() };
         let run = variant.run(asked, &state, std::mem::take(&mut self.used));
-        let want = judge::wanted(asked, chip, &run)?;
-        match (&want, &run.ended) {
-            (Want::Plan, Ok(report)) => {
+        let Expected { answer, record } = expected(run, asked, chip)?;
+        match answer {
+            Answer::Plan(report) => {
                 check(number == 0, || format!("the Rust ends; the planner refuses with {number}"))?;
-                self.plan(case, asked, report, &run, before, bank)?;
-                self.tally.coverage.plan(asked, chip, report, bank, run.record.entries.len());
+                self.plan(case, asked, &report, &record, before, bank)?;
+                self.tally.coverage.plan(asked, chip, &report, bank, record.entries.len());
             }
-            (Want::Departure(wanted, divider), ended) => {
-                check(number == *wanted, || format!("the Rust wrote P's divider against {wanted}; the planner answers {number}"))?;
-                if ended.is_ok() {
-                    self.tally.departures[*wanted as usize - 14] += 1;
-                    self.tally.coverage.departure(*wanted, *divider);
+            Answer::Refusal(wanted, Cause::Divider { divider, ended }) => {
+                check(number == wanted, || format!("the Rust wrote P's divider against {wanted}; the planner answers {number}"))?;
+                if ended {
+                    self.tally.departures[wanted as usize - 14] += 1;
+                    self.tally.coverage.departure(wanted, divider);
                 }
             }
-            (Want::Refusal(wanted), Err(text)) => {
-                check(number == *wanted, || format!("the Rust panics ({text}), which is {wanted}; the planner answers {number}"))?
+            Answer::Refusal(wanted, Cause::Panic(text)) => {
+                check(number == wanted, || format!("the Rust panics ({text}), which is {wanted}; the planner answers {number}"))?
             }
-            _ => return Err(format!("the Rust's run and what is wanted of it disagree: {want:?}")),
         }
         if number != 0 {
             self.refused_walk(case, number)?;
         } else if self.random.one_in(16) {
-            self.walk(case, asked, &state, variant)?;
+            self.walk(case, asked, chip, &state, variant)?;
         }
-        self.used = run.record;
+        self.used = record;
         Ok(())
     }
 
     /// Every clock, every entry, every word of the bank; then the leaves.
-    fn plan(&mut self, case: &Case, asked: &Asked, report: &[u32; 55], run: &Run<[u32; 55]>, before: &Bank, bank: &Bank) -> Checked<()> {
+    fn plan(&mut self, case: &Case, asked: &Asked, report: &[u32; 55], record: &Record, before: &Bank, bank: &Bank) -> Checked<()> {
         if let Some(k) = (0..raw::REPORT).find(|k| report[*k] != self.report[*k]) {
             return Err(format!("word {k} of the report: the Rust {}, the planner {}", report[k], self.report[k]));
         }
-        let theirs = &run.record.entries;
+        let theirs = &record.entries;
         let ours: Vec<&[u32]> = self.list[1..].chunks_exact(9).take(self.list[0] as usize).collect();
         for k in 0..theirs.len().max(ours.len()) {
             let (rust, planner) = (theirs.get(k).map(|nine| &nine[..]), ours.get(k).copied());
@@ -205,7 +205,9 @@ impl Comparison {
         let flash = theirs.iter().find(|nine| nine[1] == 48).map_or(0, |nine| nine[4] + 8 * nine[2]);
         let leaf = raw::flash(report[3], asked.scale.into());
         check(leaf == flash, || format!("wait states: the Rust {flash}, clock_flash {leaf}"))?;
-        self.tally.plls += leaves::compare(&case.request, &case.chip, report, &applied)?;
+        let plls = leaves::compare(&case.request, &case.chip, report, &applied)?;
+        self.tally.plls += plls;
+        (0..plls).for_each(|_| self.tally.coverage.pll());
         Ok(())
     }
 
@@ -224,29 +226,29 @@ impl Comparison {
     }
 
     /// The sources again on a chip whose flags come up late, and the walk over what they read.
-    fn walk(&mut self, case: &Case, asked: &Asked, state: &State, variant: &Variant) -> Checked<()> {
+    fn walk(&mut self, case: &Case, asked: &Asked, chip: &Chip, state: &State, variant: &Variant) -> Checked<()> {
         let random = &mut self.random;
         let misses = (0..14).map(|_| if random.one_in(2) { 0 } else { random.below(4) as u8 }).collect();
         let state = State { csirdy: !random.one_in(8), misses, ..state.clone() };
-        let run = variant.run(asked, &state, Record::default());
-        let last = match &run.ended {
-            Ok(_) => [0; 9],
-            Err(text) => {
-                check(!state.csirdy && text.contains("csirdy"), || format!("the Rust panics where it had not before: {text}"))?;
+        let Expected { answer, record } = expected(variant.run(asked, &state, Record::default()), asked, chip)?;
+        let last = match answer {
+            Answer::Plan(_) => [0; 9],
+            Answer::Refusal(number, _) => {
+                check(!state.csirdy && number == 24, || format!("the Rust's run comes to {number} where it had not before"))?;
                 self.tally.ended += 1;
-                [5, 24, 0, 0, 0, 0, 0, 0, 0]
+                [5, number, 0, 0, 0, 0, 0, 0, 0]
             }
         };
         let after = 1 + random.below(3);
-        let reads = values(&run.record, after, random);
+        let reads = values(&record, after, random);
         let by_c = |shown: &mut [u32]| raw::walk(&case.request, &case.chip, reads.concat().as_slice(), shown);
         let by_wrapper = case.meant.map(|meant| {
             let reads = &reads;
             move |shown: &mut [[u32; 9]]| clock_api::walk(&meant.request, &meant.chip, reads, shown)
         });
-        walked(&run.record.entries, last, reads.len(), by_c, by_wrapper)?;
+        walked(&record.entries, last, reads.len(), by_c, by_wrapper)?;
         self.tally.walks += 1;
-        self.tally.coverage.walk(&run.record, last);
+        self.tally.coverage.walk(&record, last);
         Ok(())
     }
 }

@@ -1,5 +1,5 @@
-//! What has to come out: whether bytes are well formed, and, from a run of the sources, a plan or which refusals fit.
-use hal::{at, Asked, Record, Run};
+//! Reads what is compared: whether bytes are well formed, and in a run of the sources a forbidden divider and which refusal fits a panic.
+use hal::{at, Asked, Record, Variant};
 
 /// The chip's numbers.
 #[derive(Clone, Copy, Debug)]
@@ -8,6 +8,13 @@ pub struct Chip {
     pub odd: [bool; 3],
     pub hsion: bool,
     pub hsidiv: u32,
+}
+
+impl Chip {
+    /// A chip at reset values for a variant of the sources.
+    pub fn of(variant: &Variant) -> Chip {
+        Chip { plls: variant.plls, odd: variant.odd, hsion: true, hsidiv: 2 }
+    }
 }
 
 /// The bytes of a request and a chip, read as docs/CODES.md says; none where that is refusal 1.
@@ -49,16 +56,6 @@ pub fn read(request: &[u8], chip: &[u8]) -> Option<(Asked, Chip)> {
     }
     let odd = [chip[1] == 1, chip[2] == 1, chip[3] == 1];
     Some((asked, Chip { plls: chip[0], odd, hsion: chip[5] == 1, hsidiv: chip[6].into() }))
-}
-
-/// What the planner has to answer.
-#[derive(Clone, Copy, Debug, PartialEq, Eq)]
-pub enum Want {
-    Plan,
-    /// The refusal that goes with the panic.
-    Refusal(u32),
-    /// 14 or 15: the sources have written a divider that the manual forbids, this one.
-    Departure(u32, u64),
 }
 
 /// The hertz as the PLLs see them: filled by the MCOs, and PLL1 P by a system clock that needs it.
@@ -107,8 +104,10 @@ fn p_divider(outputs: &[Option<u32>], odd: bool) -> u64 {
     target / u64::from(outputs[0].unwrap_or(1))
 }
 
-/// A divider of P that was written although it is forbidden: refusal 14 or 15 of the first such PLL. An error where another was written.
-fn departure(f: &hal::Hertzes, chip: &Chip, record: &Record) -> Result<Option<(u32, u64)>, String> {
+/// A divider of P that was written although the manual forbids it: 14 or 15 of the first such PLL, and the divider. An error where another
+/// was written.
+pub fn forbidden(asked: &Asked, chip: &Chip, record: &Record) -> Result<Option<(u32, u64)>, String> {
+    let f = filled(asked);
     for pll in 0..chip.plls as usize {
         let written = match set(record, 15 * pll + 6) {
             Some(written) => written,
@@ -129,7 +128,7 @@ fn departure(f: &hal::Hertzes, chip: &Chip, record: &Record) -> Result<Option<(u
 }
 
 /// Panics that stand for one refusal wherever they come.
-const ANYWHERE: [(&str, u32); 11] = [
+const ANYWHERE: [(&str, u32); 12] = [
     ("Max frequency is", 3),
     ("HSE is required for MCO", 4),
     ("Cannot set pll1_p_ck", 5),
@@ -141,27 +140,21 @@ const ANYWHERE: [(&str, u32); 11] = [
     ("unreachable code", 19),
     ("not implemented", 20),
     ("Clock is too fast", 23),
+    ("csirdy", 24),
 ];
 /// Panics at a PLL's outputs.
 const IN_PLL: [(&str, u32); 4] =
     [("VCO cannot be configured", 8), ("higher than PLL max", 9), ("output_range.contains", 10), ("`Option::unwrap()` on a `None`", 11)];
 
-/// The answer that fits a run of the sources. Which refusal goes with a panic is by its text, and by what was written until then.
-pub fn wanted(asked: &Asked, chip: &Chip, run: &Run<[u32; 55]>) -> Result<Want, String> {
+/// The refusal that goes with a panic: by its text, and by what was written until then.
+pub fn refusal(asked: &Asked, chip: &Chip, record: &Record, text: &str) -> Result<u32, String> {
     let f = filled(asked);
-    if let Some((number, divider)) = departure(&f, chip, &run.record)? {
-        return Ok(Want::Departure(number, divider));
-    }
-    let text = match &run.ended {
-        Ok(_) => return Ok(Want::Plan),
-        Err(text) => text,
-    };
     let told = |table: &[(&str, u32)]| table.iter().find(|(part, _)| text.contains(part)).map(|(_, number)| *number);
     let outputs = |pll: usize| &f[at::PLL[pll]..][..3];
     let number = told(&ANYWHERE).or_else(|| {
         // at the outputs of the first PLL that has some and has written nothing, or behind the PLLs
         let asked_of = |pll: &usize| outputs(*pll).iter().any(|f| f.is_some());
-        let stopped = (0..chip.plls as usize).filter(asked_of).find(|pll| set(&run.record, 15 * pll).is_none());
+        let stopped = (0..chip.plls as usize).filter(asked_of).find(|pll| set(record, 15 * pll).is_none());
         match stopped {
             Some(pll) if outputs(pll).contains(&Some(0)) => Some(7),
             Some(pll) if text.contains("multiply with overflow") => {
@@ -172,7 +165,7 @@ pub fn wanted(asked: &Asked, chip: &Chip, run: &Run<[u32; 55]>) -> Result<Want, 
             None => told(&[("divide by zero", zero_divided(asked, &f)), ("`Option::unwrap()` on a `None`", 21)]),
         }
     });
-    number.map(Want::Refusal).ok_or_else(|| format!("no refusal is known for the Rust's panic: {text}"))
+    number.ok_or_else(|| format!("no refusal is known for the Rust's panic: {text}"))
 }
 
 /// A division by 0 behind the PLLs: AHB requested 0, an AHB that comes to 0, an APB or an MCO requested 0.

@@ -2,6 +2,7 @@
 //! `differential --vectors FILE [seed]` writes a sample of the Rust's answers instead: docs/VECTORS.md.
 mod compare;
 mod coverage;
+mod departures;
 mod judge;
 mod leaves;
 mod others;
@@ -34,6 +35,7 @@ fn main() {
     for (k, case) in Case::fixed().iter().enumerate() {
         all.case(case).unwrap_or_else(|what| differs(k as u64, case, &what));
     }
+    met(&all, 0);
     for k in 0..count {
         let case = Case::any(kind(k), &mut all.random);
         all.case(&case).unwrap_or_else(|what| differs(k, &case, &what));
@@ -46,12 +48,17 @@ fn main() {
         })
     });
     summary(&all, count, seed, rest);
+    met(&all, count);
+    println!("no difference, {:.1} s", start.elapsed().as_secs_f64());
+}
+
+/// Ends the run where something was met less often than it must be in so many requests, beside the fixed ones.
+fn met(all: &Comparison, count: u64) {
     let lacking = all.tally.coverage.lacking(count);
     if !lacking.is_empty() {
         println!("met too seldom:\n  {}", lacking.join("\n  "));
         exit(1);
     }
-    println!("no difference, {:.1} s", start.elapsed().as_secs_f64());
 }
 
 fn usage() -> ! {
@@ -79,8 +86,7 @@ fn summary(all: &Comparison, count: u64, seed: u64, rest: [u64; 4]) {
     println!("\nplans: the same 26 clocks and 3 divisors, {} entries and 82 bank words each", all.tally.entries);
     println!("leaves: AHB, APB, timer, MCO and wait states of each plan, and {} PLLs", all.tally.plls);
     println!("refusals, by number; the Rust panics, or the bytes are damaged (1):");
-    let numbered: Vec<String> =
-        (1..25).filter(|n| all.tally.refusals[*n] > 0).map(|n| format!("{n:>6}: {:<8}", all.tally.refusals[n])).collect();
+    let numbered: Vec<String> = all.tally.refusals.iter().map(|(number, count)| format!("{number:>6}: {count:<8}")).collect();
     for row in numbered.chunks(5) {
         println!("{}", row.concat());
     }

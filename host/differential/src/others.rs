@@ -1,5 +1,7 @@
 //! The voltage walk, the reset reason, and the leaves.
 use crate::compare::{values, walked};
+use crate::departures::{expected, Answer};
+use crate::judge::Chip;
 use clock_api::{raw, Scale};
 use hal::{at, Asked, Record, State, VARIANTS};
 use requests::Random;
@@ -79,8 +81,13 @@ pub fn flash() -> Checked<u64> {
             let mut asked = Asked { scale, ..Asked::default() };
             asked.hertz[at::HSE] = Some(ahb);
             let run = variant.run(&asked, &State::default(), Record::default());
-            let set = run.record.entries.iter().find(|entry| entry[1] == 48);
-            let wanted = set.map_or(255, |entry| entry[4] + 8 * entry[2]);
+            let expected = expected(run, &asked, &Chip::of(variant))?;
+            let set = expected.record.entries.iter().find(|entry| entry[1] == 48);
+            let wanted = match (expected.answer, set) {
+                (Answer::Plan(_), Some(entry)) => entry[4] + 8 * entry[2],
+                (Answer::Refusal(..), None) => 255,
+                _ => return Err(format!("HSE {ahb} alone, scale {scale}: neither a plan with wait states nor a refusal without")),
+            };
             let told = raw::flash(ahb, scale.into());
             if told != wanted {
                 return Err(format!("clock_flash({ahb}, {scale}) is {told}, the Rust's {wanted}"));

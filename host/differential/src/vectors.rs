@@ -1,7 +1,9 @@
 //! A sample of the Rust's answers as a file, for the program crates/vectors: docs/VECTORS.md. The planner is not called here.
-use crate::judge::{self, Want};
+use crate::departures::{self, Cause};
+use crate::judge;
 use hal::{Nine, Record, State, Variant};
 use requests::{Case, Kind, Random, KINDS};
+use std::collections::BTreeMap;
 use std::fs;
 
 /// Plans kept of each kind.
@@ -35,19 +37,18 @@ struct Answer {
 #[derive(Default)]
 struct Kept {
     plans: [usize; KINDS.len()],
-    refusals: [usize; 25],
-    ends: [usize; 25],
+    refusals: BTreeMap<u32, usize>,
+    ends: BTreeMap<u32, usize>,
 }
 
 impl Kept {
     /// Counts an answer if more of its sort are wanted.
     fn takes(&mut self, kind: Kind, answer: &Answer) -> bool {
-        let number = answer.number as usize;
         let (count, most) = match answer.did {
             Did::Plan => (&mut self.plans[kind as usize], PLANS[kind as usize]),
-            Did::EndsForbidden => (&mut self.ends[number], REFUSALS),
-            Did::NotRun => (&mut self.refusals[number], OUTSIDE),
-            Did::Panics => (&mut self.refusals[number], REFUSALS),
+            Did::EndsForbidden => (self.ends.entry(answer.number).or_default(), REFUSALS),
+            Did::NotRun => (self.refusals.entry(answer.number).or_default(), OUTSIDE),
+            Did::Panics => (self.refusals.entry(answer.number).or_default(), REFUSALS),
         };
         let takes = *count < most;
         *count += takes as usize;
@@ -79,12 +80,12 @@ pub fn write(file: &str, seed: u64, kind: fn(u64) -> Kind) -> Result<(), String>
     for (k, kind) in KINDS.iter().enumerate() {
         println!("{kind:?}: {}, of which {} plans", of_kind[k], kept.plans[k]);
     }
-    let numbered = |counts: [usize; 25]| {
-        let each = (1..25).filter(|n| counts[*n] > 0).map(|n| format!("{n}: {}", counts[n]));
+    let numbered = |counts: &BTreeMap<u32, usize>| {
+        let each = counts.iter().map(|(number, count)| format!("{number}: {count}"));
         each.collect::<Vec<_>>().join(", ")
     };
-    println!("refusals by number: {}", numbered(kept.refusals));
-    println!("refusals where the Rust ends: {}", numbered(kept.ends));
+    println!("refusals by number: {}", numbered(&kept.refusals));
+    println!("refusals where the Rust ends: {}", numbered(&kept.ends));
     Ok(())
 }
 
@@ -98,12 +99,12 @@ fn answer(case: &Case) -> Result<Answer, String> {
     let variant = Variant::find(chip.plls, chip.odd).ok_or("no variant of the sources")?;
     let state = State { hsion: chip.hsion, hsidiv: chip.hsidiv, ..State::default() };
     let run = variant.run(&asked, &state, Record::default());
-    match (judge::wanted(&asked, &chip, &run)?, run.ended) {
-        (Want::Plan, Ok(report)) => Ok(Answer { did: Did::Plan, number: 0, report: Some(report), entries: run.record.entries }),
-        (Want::Departure(number, _), Ok(_)) => Ok(refused(Did::EndsForbidden, number)),
-        (Want::Departure(number, _) | Want::Refusal(number), Err(_)) => Ok(refused(Did::Panics, number)),
-        (want, _) => Err(format!("the Rust's run and what is wanted of it disagree: {want:?}")),
-    }
+    let expected = departures::expected(run, &asked, &chip)?;
+    Ok(match expected.answer {
+        departures::Answer::Plan(report) => Answer { did: Did::Plan, number: 0, report: Some(report), entries: expected.record.entries },
+        departures::Answer::Refusal(number, Cause::Divider { ended: true, .. }) => refused(Did::EndsForbidden, number),
+        departures::Answer::Refusal(number, _) => refused(Did::Panics, number),
+    })
 }
 
 /// The bytes of a record: docs/VECTORS.md.

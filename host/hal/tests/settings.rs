@@ -69,6 +69,12 @@ fn refused(name: &str, asked: &Asked, text: &str) {
     assert!(ended.as_ref().err().map_or(false, |panic| panic.contains(text)), "{name}: {ended:?}");
 }
 
+/// Where there are sources, each variant of them is built.
+#[test]
+fn every_variant() {
+    assert_eq!(hal::VARIANTS.len(), if hal::THERE { 12 } else { 0 }, "{}", hal::SOURCES);
+}
+
 #[test]
 fn settings() {
     if hal::VARIANTS.is_empty() {
