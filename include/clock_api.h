@@ -36,8 +36,8 @@ extern "C" {
 
 /* Plans a request; its clocks are stored in `report`, of 55 words. The clocks in order: sys, hclk, pclk1, pclk2, pclk3, timx, timy, per,
  * hsi, csi, hsi48, lsi, hse, lse, audio, mco1, mco2, then P, Q, R of PLL1, PLL2, PLL3.
- * Returns 0, or the refusal's number: 1 for a request, chip or report of another length, else 1 and 3 to 23 by the request and the chip.
- * A refused call leaves `report` as it was. */
+ * Returns 0, or the refusal's number: 1 for a request, chip or report of another length, else by the request and the chip one of those that
+ * docs/CODES.md lists as answered by plan. A refused call leaves `report` as it was. */
 uint32_t clock_plan(const uint8_t *request, size_t request_length, const uint8_t *chip, size_t chip_length, uint32_t *report,
                     size_t report_length);
 
@@ -70,12 +70,12 @@ size_t clock_voltage_walk(uint32_t target, const uint32_t *reads, size_t reads_l
  * Returns 0, or 1 for a PLL count that is not 2 or 3 or an `out` of another length, which leaves `out` as it was. */
 uint32_t clock_reset_reason(uint32_t plls, uint32_t word, uint32_t *out, size_t out_length);
 
-/* Chooses the settings of one PLL for a source in hertz. `part` is the PLL's 16 bytes of a request: the strategy, 0 or 1, then P, Q and R as a
- * byte 0 or 1 and the hertz in 4 bytes, low byte first. `odd` is 1 where P may divide by an odd number, else 0. Stored in `out`, of 18 words:
- * VCOSEL, target, M, reference, RGE (its code, 0 to 3), N, FRACEN, FRACN, VCO, then for P, Q and R 0 or 1, the divider and the hertz. A PLL with nothing
- * requested has eighteen 0.
- * Returns 0, or the refusal's number: 6 to 15, and 1 for an `odd`, `part` or `out` of another kind or length. A refused call leaves `out` as
- * it was. */
+/* Chooses the settings of one PLL for a source in hertz. `part` is the PLL's 16 bytes of a request: the strategy, 0 or 1, then P, Q and R
+ * as a byte 0 or 1 and the hertz in 4 bytes, low byte first. `odd` is 1 where P may divide by an odd number, else 0. Stored in `out`, of 18
+ * words: VCOSEL, target, M, reference, RGE (its code, 0 to 3, as in a bank), N, FRACEN, FRACN, VCO, then for P, Q and R 0 or 1, the divider
+ * and the hertz. A PLL with nothing requested has eighteen 0.
+ * Returns 0, or the refusal's number: 6 to 11 or 13 to 15, and 1 for an `odd`, `part` or `out` of another kind or length. A refused call
+ * leaves `out` as it was. */
 uint32_t clock_pll(uint32_t odd, uint32_t source, const uint8_t *part, size_t part_length, uint32_t *out, size_t out_length);
 
 /* Returns FRACN, 0 to 8191, for an output in hertz behind a divider, by the reference in hertz and N; 8192 where it is out of range. */
@@ -89,17 +89,19 @@ uint32_t clock_flash(uint32_t ahb, uint32_t scale);
 
 /* The AHB divisor and clock for a system clock, in hertz. The requested clock is `set` 0 for unset, and then `hertz` is not looked at, or
  * `set` 1 and the hertz. Stored in `out`, of two words: the divisor and the clock.
- * Returns 0, or the refusal's number: 18 or 19, and 1 for another `set` or an `out` of another length. A refused call leaves `out` as it was. */
+ * Returns 0, or the refusal's number: 18 or 19, and 1 for another `set` or an `out` of another length. A refused call leaves `out` as it
+ * was. */
 uint32_t clock_ahb(uint32_t system, uint32_t set, uint32_t hertz, uint32_t *out, size_t out_length);
 
 /* An APB divisor and clock for an AHB clock, likewise; the refusal is 18. */
 uint32_t clock_apb(uint32_t hclk, uint32_t set, uint32_t hertz, uint32_t *out, size_t out_length);
 
-/* Returns the timer clock in hertz for an AHB clock and an APB divisor: AHB / 2, / 4, / 8 under 4, 8, 16, and AHB under any other number, 1 and
- * 2 as well as those that no register has. */
+/* Returns the timer clock in hertz for an AHB clock and an APB divisor: AHB / 2, / 4, / 8 under 4, 8, 16, and AHB under any other number, 1
+ * and 2 as well as those that no register has. */
 uint32_t clock_timer(uint32_t hclk, uint32_t ppre);
 
-/* A clock output's prescaler and clock for the clock of its source. Stored in `out`, of three words: the prescaler, 0 or 1, the hertz.
+/* A clock output's prescaler and clock for the clock of its source; `set` and `hertz` are the requested clock, as for clock_ahb. Stored in
+ * `out`, of three words: the prescaler, 0 or 1, the hertz.
  * Returns 0, or the refusal's number: 22 or 23, and 1 as clock_ahb does. A refused call leaves `out` as it was. */
 uint32_t clock_mco(uint32_t clock, uint32_t set, uint32_t hertz, uint32_t *out, size_t out_length);
 

@@ -15,7 +15,7 @@ use Rattle.rules.specs.Document01.Refusals.{numberOf, codeOf}
 use Rattle.rules.specs.Document01.Plan.{planOf, bankPlanOf}
 use Rattle.rules.specs.Document01.Entries.{entriesOf}
 use Rattle.rules.specs.Document01.Bank.{applyAll}
-use Rattle.rules.specs.Document01.Words.{storedFrom, reportWords, listed as listedIn}
+use Rattle.rules.specs.Words.{storedFrom, reportWords, listed as listedIn}
 use Rattle.clock_api.specs.Calls.{chipFrom, outside, askedOf, bankAsked, reportBy, listBy}
 
 module _ (request chip : List ℕ) (fits : Bool) where

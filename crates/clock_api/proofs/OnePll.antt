@@ -9,14 +9,16 @@ use lib.Dec.{eqb}
 use lib.ListN.{length}
 use borrow.Author.Tests.{eq-eqb, ne-eqb, lt-ltb, le-ltb}
 use Rattle.request.specs.declared.PartRead.{PartRead}
-use Rattle.pll.specs.declared.PllAnswer.{PllAnswer}
-use Rattle.pll.specs.Answer.{pllAnswer, onePllOf}
-use Rattle.clock_api.specs.OnePll.{pllFor, pllCode, pllRoom}
+use Rattle.types.specs.declared.Pll.{Pll}
+use Rattle.rules.specs.Document01.Result.{Result}
+use Rattle.rules.specs.Answers.{resultCode}
+use Rattle.pll.specs.Answer.{onePllOf}
+use Rattle.clock_api.specs.OnePll.{pllFor, pllRoom}
 
 module _ (odd source : ℕ) (x : PartRead) (room : List ℕ) where
   -- both clauses
   abbrev Says : (k : ℕ) → (r : List ℕ) → Type 0
-  Says k r = (k ≡ pllCode (pllAnswer (pllFor odd source x (length room)))) × (r ≡ pllRoom (pllAnswer (pllFor odd source x (length room))) room)
+  Says k r = (k ≡ resultCode (pllFor odd source x (length room))) × (r ≡ pllRoom (pllFor odd source x (length room)) room)
 
   pub no-room : length room ≢ 18 → Says 1 room
   unfolding pllFor
@@ -32,6 +34,6 @@ module _ (odd source : ℕ) (x : PartRead) (room : List ℕ) where
       unfolding pllFor
       no-part t = rw (eq-eqb (length room) 18 size, lt-ltb odd 2 (omega arith), t) (refl, refl)
 
-      pub answered : {y : PllAnswer} {k : ℕ} {r : List ℕ} → x .read ≡ true → y ≡ pllAnswer (onePllOf (eqb odd 1) source (x .part)) → (k ≡ pllCode y) × (r ≡ pllRoom y room) → Says k r
+      pub answered : {y : Result Pll} {k : ℕ} {r : List ℕ} → x .read ≡ true → y ≡ onePllOf (eqb odd 1) source (x .part) → (k ≡ resultCode y) × (r ≡ pllRoom y room) → Says k r
       unfolding pllFor
       answered t e p = rw (eq-eqb (length room) 18 size, lt-ltb odd 2 (omega arith), t, ← e) p

@@ -12,7 +12,7 @@ use Rattle.rules.proofs.Computes.{byRules}
 use Rattle.clock_api.specs.Calls.{chipFrom, askedOf, bankAsked, reportBy, listBy}
 
 -- PLL count, odd P of PLL1, PLL2, PLL3, scale, HSION, HSIDIV
-pub seven-bytes : chipFrom (11 ∷ 12 ∷ 13 ∷ 14 ∷ 15 ∷ 16 ∷ 17 ∷ []) ≡ record { plls = 11; odd1 = 12; odd2 = 13; odd3 = 14; scale = 15; hsion = 16; hsidiv = 17 }
+pub seven-bytes : chipFrom (11 ∷ 12 ∷ 13 ∷ 14 ∷ 15 ∷ 16 ∷ 17 ∷ []) ≡ record { plls = 11; odd = 12 ∷ 13 ∷ 14 ∷ []; scale = 15; hsion = 16; hsidiv = 17 }
 seven-bytes = refl
 
 -- a request for nothing on two PLLs: planned for a chip of seven bytes and a slice that has its length, else 1

@@ -1,6 +1,6 @@
 -- What the C functions of the planner answer, and what they leave in a lent slice: docs/CODES.md, The C functions.
 use mathlib.Core.Bool.{Bool, cond, _&&_}
-use mathlib.Core.List.{List}
+use mathlib.Core.List.{List, [], _∷_}
 use Prim.Native.Nat.{ℕ}
 use lib.Dec.{eqb}
 use lib.ListN.{length, getD}
@@ -12,11 +12,11 @@ use Rattle.types.specs.declared.Planned.{Planned}
 use Rattle.rules.specs.Document01.Result as Result
 use Rattle.rules.specs.Document01.Plan.{answered, planOf, bankPlanOf}
 use Rattle.rules.specs.Document01.Entries.{entriesOf}
-use Rattle.rules.specs.Document01.Words.{storedFrom, reportWords, listed}
+use Rattle.rules.specs.Words.{storedFrom, reportWords, listed}
 
 -- the chip's numbers
 abbrev pub chipOf : (plls odd1 odd2 odd3 scale hsion hsidiv : ℕ) → Chip
-chipOf plls odd1 odd2 odd3 scale hsion hsidiv = record { plls = plls; odd1 = odd1; odd2 = odd2; odd3 = odd3; scale = scale; hsion = hsion; hsidiv = hsidiv }
+chipOf plls odd1 odd2 odd3 scale hsion hsidiv = record { plls = plls; odd = odd1 ∷ odd2 ∷ odd3 ∷ []; scale = scale; hsion = hsion; hsidiv = hsidiv }
 
 -- a byte for each
 abbrev pub chipFrom : List ℕ → Chip

@@ -5,10 +5,8 @@ use Prim.Native.Nat.{ℕ}
 use lib.Dec.{eqb, ltb}
 use Rattle.types.specs.declared.Pll.{Pll}
 use Rattle.types.specs.declared.Refusal.the-variants.{OutsideCodes}
-use Rattle.rules.specs.Document01.Result.{Result, refused}
-use Rattle.rules.specs.Document01.Refusals.{numberOf}
+use Rattle.rules.specs.Document01.Result.{Result, refused, ok}
 use Rattle.request.specs.declared.PartRead.{PartRead}
-use Rattle.pll.specs.declared.PllAnswer.{PllAnswer}
 use Rattle.pll.specs.Answer.{onePllOf}
 use Rattle.pll_words.specs.PllWords.{pllStored}
 
@@ -16,12 +14,7 @@ use Rattle.pll_words.specs.PllWords.{pllStored}
 unfoldable pub pllFor : (odd source : ℕ) → PartRead → (words : ℕ) → Result Pll
 pllFor odd source x words = cond (eqb words 18 && (ltb odd 2 && x .read)) (onePllOf (eqb odd 1) source (x .part)) (refused OutsideCodes)
 
--- 0, or the refusal's number
-abbrev pub pllCode : PllAnswer → ℕ
-pllCode (PllAnswer.Refused n) = numberOf n
-pllCode (PllAnswer.Planned x) = 0
-
 -- its settings and its outputs; a refusal changes no word
-abbrev pub pllRoom : PllAnswer → List ℕ → List ℕ
-pllRoom (PllAnswer.Refused n) room = room
-pllRoom (PllAnswer.Planned x) room = pllStored x room
+abbrev pub pllRoom : Result Pll → List ℕ → List ℕ
+pllRoom (refused n) room = room
+pllRoom (ok x) room = pllStored x room

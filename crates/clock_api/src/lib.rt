@@ -20,9 +20,7 @@ fn chip_of(plls: u8, odd1: u8, odd2: u8, odd3: u8, scale: u8, hsion: u8, hsidiv:
 {
     Chip {
         plls: plls as u32,
-        odd1: odd1 as u32,
-        odd2: odd2 as u32,
-        odd3: odd3 as u32,
+        odd: [odd1 as u32, odd2 as u32, odd3 as u32],
         scale: scale as u32,
         hsion: hsion as u32,
         hsidiv: hsidiv as u32,
@@ -75,7 +73,7 @@ fn report_by(x: Planned, report: &mut [u32]) -> u32
     let plan = x.plan;
     match answer {
         Answer::Accepted => {
-            report::store(plan, report);
+            report::store_report(plan, report);
             0
         }
         Answer::Refused(n) => refusal::number_of(n),
@@ -99,7 +97,7 @@ fn list_by(x: Planned, list: &mut [u32]) -> u32
     let answer = x.answer;
     match answer {
         Answer::Accepted => {
-            listing::store(x, list);
+            listing::store_list(x, list);
             0
         }
         Answer::Refused(n) => refusal::number_of(n),

@@ -3,7 +3,7 @@ ghost use mathlib.Core.Path.{_≡_};
 ghost use mathlib.Core.Bool.{true};
 ghost use lib.ListN.{length};
 ghost use Rattle.rules.specs.Document01.Walk.{steppedOf, freshOf, voltageStepped, voltageTo};
-ghost use Rattle.rules.specs.Document01.Words.{shownCount, ran};
+ghost use Rattle.rules.specs.Words.{shownCount, ran};
 ghost use Rattle.clock_api.specs.Calls.{askedOf};
 use crate::asked;
 

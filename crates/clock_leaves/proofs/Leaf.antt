@@ -6,21 +6,16 @@ use Prim.Native.Nat.{ℕ}
 use lib.Dec.{eqb, ltb}
 use borrow.Author.Tests.{eqb-true}
 use Rattle.laws.proofs.Tests.{and-right}
-use Rattle.prescaler.specs.declared.BusAnswer.{BusAnswer}
-use Rattle.prescaler.specs.declared.McoAnswer.{McoAnswer}
-use Rattle.clock_leaves.specs.Leaves.{busCode, busRoom, mcoCode, mcoRoom, leafFits}
+use Rattle.rules.specs.Document01.Result.{Result}
+use Rattle.clock_leaves.specs.Leaves.{leafCode, leafFits}
 
-pub bus-kept : (t : Bool) (x : BusAnswer) (room : List ℕ) → t ≡ false → (1 ≡ busCode t x) × (room ≡ busRoom t x room)
-bus-kept t x room e = rw e (refl, refl)
+-- of a bus and of a clock output alike: `room` says which words are stored
+module _ {A : Type 0} (stores : Bool → Result A → List ℕ → List ℕ) (keeps : (x : Result A) (r : List ℕ) → stores false x r ≡ r) where
+  pub kept : (t : Bool) (x : Result A) (room : List ℕ) → t ≡ false → (1 ≡ leafCode t x) × (room ≡ stores t x room)
+  kept t x room e = rw e (refl, sym (keeps x room))
 
-pub bus-there : (t : Bool) (x : BusAnswer) (room : List ℕ) {y : BusAnswer} {k : ℕ} {r : List ℕ} → t ≡ true → y ≡ x → (k ≡ busCode true y) × (r ≡ busRoom true y room) → (k ≡ busCode t x) × (r ≡ busRoom t x room)
-bus-there t x room e f g = rw (e, ← f) g
-
-pub mco-kept : (t : Bool) (x : McoAnswer) (room : List ℕ) → t ≡ false → (1 ≡ mcoCode t x) × (room ≡ mcoRoom t x room)
-mco-kept t x room e = rw e (refl, refl)
-
-pub mco-there : (t : Bool) (x : McoAnswer) (room : List ℕ) {y : McoAnswer} {k : ℕ} {r : List ℕ} → t ≡ true → y ≡ x → (k ≡ mcoCode true y) × (r ≡ mcoRoom true y room) → (k ≡ mcoCode t x) × (r ≡ mcoRoom t x room)
-mco-there t x room e f g = rw (e, ← f) g
+  pub answers : (t : Bool) (x : Result A) (room : List ℕ) {y : Result A} {k : ℕ} {r : List ℕ} → t ≡ true → y ≡ x → (k ≡ leafCode true y) × (r ≡ stores true y room) → (k ≡ leafCode t x) × (r ≡ stores t x room)
+  answers t x room e f g = rw (e, ← f) g
 
 -- a slice that fits has its length
 pub fits-length : (set words n : ℕ) {t : Bool} → t ≡ leafFits set words n → t ≡ true → n ≡ words

@@ -9,7 +9,7 @@ use lib.ListN.{length}
 use Rattle.types.specs.declared.Refusal.{Refusal}
 use Rattle.types.specs.declared.ResetReason.{ResetReason}
 use Rattle.rules.specs.Document01.Refusals.{numberOf}
-use Rattle.rules.specs.Document01.Words.{storedFrom}
+use Rattle.rules.specs.Words.{storedFrom}
 use Rattle.reset_reason.specs.declared.ResetAnswer.{ResetAnswer}
 use Rattle.clock_leaves.specs.Reasons.{reasonCode, reasonAnswer, reasonRoom}
 

@@ -7,11 +7,11 @@ use Rattle.types.specs.declared.Fracn.the-variants.{Value, OutOfRange}
 use Rattle.types.specs.declared.Hertz.the-variants.{Unset, Hz}
 use Rattle.types.specs.declared.Refusal.the-variants.{AhbZero, McoRatio, OutsideCodes}
 use Rattle.types.specs.declared.ResetReason.the-variants.{PowerOnReset, PinReset, SystemReset, WindowWatchdogReset, IndependentWatchdogReset, GenericWatchdogReset, IllegalStopEntryReset, Unknown}
-use Rattle.prescaler.specs.declared.BusAnswer.{BusAnswer}
-use Rattle.prescaler.specs.declared.McoAnswer.{McoAnswer}
+use Rattle.types.specs.declared.Bus.{Bus}
+use Rattle.types.specs.declared.Mco.{Mco}
 use Rattle.rules.specs.Document01.Result.{refused, ok}
 use Rattle.reset_reason.specs.declared.ResetAnswer.{ResetAnswer}
-use Rattle.clock_leaves.specs.Leaves.{fracnCode, vcoCode, waitsFor, waitsCode, hertzIn, busCode, busRoom, mcoCode, mcoRoom, leafFits}
+use Rattle.clock_leaves.specs.Leaves.{fracnCode, vcoCode, waitsFor, waitsCode, hertzIn, leafCode, busRoom, mcoRoom, leafFits}
 use Rattle.clock_leaves.specs.Reasons.{reasonCode, reasonAnswer, reasonRoom}
 
 -- 0 power-on, 1 pin, 2 system, 3 window watchdog, 4 independent watchdog, 5 either watchdog, 6 illegal stop entry, 7 unknown
@@ -56,19 +56,19 @@ abbrev two : List ℕ
 two = 70 ∷ 71 ∷ []
 
 pub bus-words :
-    busRoom true (BusAnswer.Divided (record { pre = 4; clock = 9 })) two ∷ busRoom false (BusAnswer.Divided (record { pre = 4; clock = 9 })) two ∷ busRoom true (BusAnswer.Refused AhbZero) two ∷ []
+    busRoom true (ok (record { pre = 4; clock = 9 })) two ∷ busRoom false (ok (record { pre = 4; clock = 9 })) two ∷ busRoom true (refused AhbZero) two ∷ []
     ≡ (4 ∷ 9 ∷ []) ∷ two ∷ two ∷ []
 bus-words = refl
 
-pub bus-codes : busCode true (BusAnswer.Divided (record { pre = 4; clock = 9 })) ∷ busCode false (BusAnswer.Refused AhbZero) ∷ busCode true (BusAnswer.Refused AhbZero) ∷ [] ≡ 0 ∷ 1 ∷ 19 ∷ []
+pub bus-codes : leafCode {A = Bus} true (ok (record { pre = 4; clock = 9 })) ∷ leafCode {A = Bus} false (refused AhbZero) ∷ leafCode {A = Bus} true (refused AhbZero) ∷ [] ≡ 0 ∷ 1 ∷ 19 ∷ []
 bus-codes = refl
 
 -- prescaler, 0 or 1, hertz in three words
 pub mco-words :
-    mcoRoom true (McoAnswer.Prescaler (record { pre = 4; clock = Hz 9 })) three ∷ mcoRoom true (McoAnswer.Prescaler (record { pre = 0; clock = Unset })) three
-    ∷ mcoRoom false (McoAnswer.Prescaler (record { pre = 4; clock = Hz 9 })) three ∷ mcoRoom true (McoAnswer.Refused McoRatio) three ∷ []
+    mcoRoom true (ok (record { pre = 4; clock = Hz 9 })) three ∷ mcoRoom true (ok (record { pre = 0; clock = Unset })) three
+    ∷ mcoRoom false (ok (record { pre = 4; clock = Hz 9 })) three ∷ mcoRoom true (refused McoRatio) three ∷ []
     ≡ (4 ∷ 1 ∷ 9 ∷ []) ∷ (0 ∷ 0 ∷ 0 ∷ []) ∷ three ∷ three ∷ []
 mco-words = refl
 
-pub mco-codes : mcoCode true (McoAnswer.Prescaler (record { pre = 4; clock = Hz 9 })) ∷ mcoCode false (McoAnswer.Refused McoRatio) ∷ mcoCode true (McoAnswer.Refused McoRatio) ∷ [] ≡ 0 ∷ 1 ∷ 23 ∷ []
+pub mco-codes : leafCode {A = Mco} true (ok (record { pre = 4; clock = Hz 9 })) ∷ leafCode {A = Mco} false (refused McoRatio) ∷ leafCode {A = Mco} true (refused McoRatio) ∷ [] ≡ 0 ∷ 1 ∷ 23 ∷ []
 mco-codes = refl

@@ -7,16 +7,16 @@ use Rattle.types.specs.declared.Fracn.{Fracn}
 use Rattle.types.specs.declared.Fracn.the-variants.{Value, OutOfRange}
 use Rattle.types.specs.declared.Hertz.{Hertz}
 use Rattle.types.specs.declared.Hertz.the-variants.{Unset, Hz}
+use Rattle.types.specs.declared.Bus.{Bus}
+use Rattle.types.specs.declared.Mco.{Mco}
 use Rattle.types.specs.declared.Waits.{Waits}
 use Rattle.types.specs.declared.Refusal.the-variants.{OutsideCodes, AhbZero}
 use Rattle.ieee754.specs.Whole.{vcoWhole}
 use Rattle.rules.specs.Document01.Result.{Result, refused, ok, require, _>>_}
 use Rattle.rules.specs.Document01.Flash.{flashOf}
 use Rattle.rules.specs.Document01.Chip.{scaleOf}
-use Rattle.rules.specs.Document01.Refusals.{numberOf}
-use Rattle.rules.specs.Document01.Words.{storedFrom, hertzWords}
-use Rattle.prescaler.specs.declared.BusAnswer.{BusAnswer}
-use Rattle.prescaler.specs.declared.McoAnswer.{McoAnswer}
+use Rattle.rules.specs.Answers.{resultCode}
+use Rattle.rules.specs.Words.{storedFrom, hertzWords}
 use Rattle.flash.specs.Flash.{packed}
 
 -- FRACN 0 to 8191; 8192 out of range
@@ -44,29 +44,22 @@ waitsCode (ok w) = packed w
 abbrev pub hertzIn : (set hertz : ℕ) → Hertz
 hertzIn set hertz = cond (eqb set 0) Unset (Hz hertz)
 
--- a bus: refusal 1 where a number is outside its codes or the slice has another length; else 0, or the refusal's number
-abbrev pub busCode : (fits : Bool) → BusAnswer → ℕ
-busCode false x = 1
-busCode true (BusAnswer.Refused n) = numberOf n
-busCode true (BusAnswer.Divided b) = 0
+-- refusal 1 where a number is outside its codes or the slice has another length; else 0, or the refusal's number
+abbrev pub leafCode : {A : Type 0} → (fits : Bool) → Result A → ℕ
+leafCode false x = 1
+leafCode true x = resultCode x
 
--- its divisor and its clock; a refusal changes no word
-abbrev pub busRoom : (fits : Bool) → BusAnswer → List ℕ → List ℕ
+-- a bus: its divisor and its clock; a refusal changes no word
+abbrev pub busRoom : (fits : Bool) → Result Bus → List ℕ → List ℕ
 busRoom false x room = room
-busRoom true (BusAnswer.Refused n) room = room
-busRoom true (BusAnswer.Divided b) room = storedFrom room 0 (b .pre ∷ b .clock ∷ [])
+busRoom true (refused n) room = room
+busRoom true (ok b) room = storedFrom room 0 (b .pre ∷ b .clock ∷ [])
 
--- a clock output, likewise
-abbrev pub mcoCode : (fits : Bool) → McoAnswer → ℕ
-mcoCode false x = 1
-mcoCode true (McoAnswer.Refused n) = numberOf n
-mcoCode true (McoAnswer.Prescaler x) = 0
-
--- its prescaler and its clock
-abbrev pub mcoRoom : (fits : Bool) → McoAnswer → List ℕ → List ℕ
+-- a clock output: its prescaler and its clock
+abbrev pub mcoRoom : (fits : Bool) → Result Mco → List ℕ → List ℕ
 mcoRoom false x room = room
-mcoRoom true (McoAnswer.Refused n) room = room
-mcoRoom true (McoAnswer.Prescaler x) room = storedFrom room 0 (x .pre ∷ hertzWords (x .clock) [])
+mcoRoom true (refused n) room = room
+mcoRoom true (ok m) room = storedFrom room 0 (m .pre ∷ hertzWords (m .clock) [])
 
 -- whether a number of two codes and a slice of so many words are as they should be
 abbrev pub leafFits : (set words length : ℕ) → Bool

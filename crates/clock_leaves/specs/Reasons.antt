@@ -5,7 +5,7 @@ use Prim.Native.Nat.{ℕ}
 use Rattle.types.specs.declared.ResetReason.{ResetReason}
 use Rattle.types.specs.declared.ResetReason.the-variants.{PowerOnReset, PinReset, SystemReset, WindowWatchdogReset, IndependentWatchdogReset, GenericWatchdogReset, IllegalStopEntryReset, Unknown}
 use Rattle.rules.specs.Document01.Refusals.{numberOf}
-use Rattle.rules.specs.Document01.Words.{storedFrom}
+use Rattle.rules.specs.Words.{storedFrom}
 use Rattle.reset_reason.specs.declared.ResetAnswer.{ResetAnswer}
 
 -- in the order of reset_reason.rs

@@ -2,7 +2,7 @@
 ghost use mathlib.Core.Path.{_≡_};
 ghost use mathlib.Core.List.{[], _∷_};
 ghost use lib.ListN.{length};
-ghost use Rattle.rules.specs.Document01.Words.{storedFrom};
+ghost use Rattle.rules.specs.Words.{storedFrom};
 
 mod prescalers;
 mod reset;

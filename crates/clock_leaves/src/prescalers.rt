@@ -5,13 +5,13 @@ ghost use Rattle.rules.specs.Document01.Buses.{ahbOf, apbOf, timerOf};
 ghost use Rattle.rules.specs.Document01.Mco.{mcoOf};
 ghost use Rattle.rules.specs.Document01.Hertz.{isSet, hertzOr};
 ghost use Rattle.rules.specs.Document01.Entries.{bit};
-ghost use Rattle.prescaler.specs.Prescaler.{busAnswer, mcoAnswer};
-ghost use Rattle.clock_leaves.specs.Leaves.{hertzIn, busCode, busRoom, mcoCode, mcoRoom, leafFits};
+ghost use Rattle.rules.specs.Answers.{busResult, mcoResult};
+ghost use Rattle.clock_leaves.specs.Leaves.{leafCode, hertzIn, busRoom, mcoRoom, leafFits};
 ghost use mathlib.Core.Bool.{true};
 use crate::three;
-use prescaler::BusAnswer;
-use prescaler::McoAnswer;
+use types::BusAnswer;
 use types::Hertz;
+use types::McoAnswer;
 
 fn hertz_in(set: u32, hertz: u32) -> Hertz
     ensures { λ r. ⌜ r ≡ hertzIn set hertz ⌝ }
@@ -33,8 +33,8 @@ fn fits(set: u32, words: usize, length: usize) -> bool
 
 fn bus(x: BusAnswer, out: &mut [u32]) -> u32
     requires { ⌜ length (now out) ≡ 2 ⌝ }
-    ensures code { λ r. ⌜ r ≡ busCode true x ⌝ }
-    ensures out { λ r. ⌜ now (out .exit) ≡ busRoom true x (now (out .entry)) ⌝ }
+    ensures code { λ r. ⌜ r ≡ leafCode true (busResult x) ⌝ }
+    ensures out { λ r. ⌜ now (out .exit) ≡ busRoom true (busResult x) (now (out .entry)) ⌝ }
 {
     match x {
         BusAnswer::Refused(n) => refusal::number_of(n),
@@ -49,8 +49,8 @@ fn bus(x: BusAnswer, out: &mut [u32]) -> u32
 // The AHB divisor and clock for a system clock, in two words.
 #[no_mangle]
 pub extern "C" fn clock_ahb(system: u32, set: u32, hertz: u32, out: &mut [u32]) -> u32
-    ensures code { λ r. ⌜ r ≡ busCode (leafFits set 2 (length (now (out .entry)))) (busAnswer (ahbOf system (hertzIn set hertz))) ⌝ }
-    ensures out { λ r. ⌜ now (out .exit) ≡ busRoom (leafFits set 2 (length (now (out .entry)))) (busAnswer (ahbOf system (hertzIn set hertz))) (now (out .entry)) ⌝ }
+    ensures code { λ r. ⌜ r ≡ leafCode (leafFits set 2 (length (now (out .entry)))) (ahbOf system (hertzIn set hertz)) ⌝ }
+    ensures out { λ r. ⌜ now (out .exit) ≡ busRoom (leafFits set 2 (length (now (out .entry)))) (ahbOf system (hertzIn set hertz)) (now (out .entry)) ⌝ }
 {
     if !fits(set, 2, out.len()) {
         return 1;
@@ -61,8 +61,8 @@ pub extern "C" fn clock_ahb(system: u32, set: u32, hertz: u32, out: &mut [u32]) 
 // An APB divisor and clock for an AHB clock, in two words.
 #[no_mangle]
 pub extern "C" fn clock_apb(hclk: u32, set: u32, hertz: u32, out: &mut [u32]) -> u32
-    ensures code { λ r. ⌜ r ≡ busCode (leafFits set 2 (length (now (out .entry)))) (busAnswer (apbOf hclk (hertzIn set hertz))) ⌝ }
-    ensures out { λ r. ⌜ now (out .exit) ≡ busRoom (leafFits set 2 (length (now (out .entry)))) (busAnswer (apbOf hclk (hertzIn set hertz))) (now (out .entry)) ⌝ }
+    ensures code { λ r. ⌜ r ≡ leafCode (leafFits set 2 (length (now (out .entry)))) (apbOf hclk (hertzIn set hertz)) ⌝ }
+    ensures out { λ r. ⌜ now (out .exit) ≡ busRoom (leafFits set 2 (length (now (out .entry)))) (apbOf hclk (hertzIn set hertz)) (now (out .entry)) ⌝ }
 {
     if !fits(set, 2, out.len()) {
         return 1;
@@ -98,12 +98,12 @@ fn hertz_of(h: Hertz) -> u32
 
 fn output(x: McoAnswer, out: &mut [u32]) -> u32
     requires { ⌜ length (now out) ≡ 3 ⌝ }
-    ensures code { λ r. ⌜ r ≡ mcoCode true x ⌝ }
-    ensures out { λ r. ⌜ now (out .exit) ≡ mcoRoom true x (now (out .entry)) ⌝ }
+    ensures code { λ r. ⌜ r ≡ leafCode true (mcoResult x) ⌝ }
+    ensures out { λ r. ⌜ now (out .exit) ≡ mcoRoom true (mcoResult x) (now (out .entry)) ⌝ }
 {
     match x {
         McoAnswer::Refused(n) => refusal::number_of(n),
-        McoAnswer::Prescaler(p) => {
+        McoAnswer::Prescaled(p) => {
             let clock = p.clock;
             three(p.pre, set_of(clock), hertz_of(clock), out)
         }
@@ -113,8 +113,8 @@ fn output(x: McoAnswer, out: &mut [u32]) -> u32
 // A clock output's prescaler and clock for the clock of its source, in three words: the prescaler, 0 or 1, the hertz.
 #[no_mangle]
 pub extern "C" fn clock_mco(clock: u32, set: u32, hertz: u32, out: &mut [u32]) -> u32
-    ensures code { λ r. ⌜ r ≡ mcoCode (leafFits set 3 (length (now (out .entry)))) (mcoAnswer (mcoOf clock (hertzIn set hertz))) ⌝ }
-    ensures out { λ r. ⌜ now (out .exit) ≡ mcoRoom (leafFits set 3 (length (now (out .entry)))) (mcoAnswer (mcoOf clock (hertzIn set hertz))) (now (out .entry)) ⌝ }
+    ensures code { λ r. ⌜ r ≡ leafCode (leafFits set 3 (length (now (out .entry)))) (mcoOf clock (hertzIn set hertz)) ⌝ }
+    ensures out { λ r. ⌜ now (out .exit) ≡ mcoRoom (leafFits set 3 (length (now (out .entry)))) (mcoOf clock (hertzIn set hertz)) (now (out .entry)) ⌝ }
 {
     if !fits(set, 3, out.len()) {
         return 1;

@@ -1,2 +1,1 @@
-mod System
-mod Codes
+pub mod System

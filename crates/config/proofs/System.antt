@@ -1,43 +1,44 @@
 -- Steps 1 to 3 decided by their tests, one after the other.
-use mathlib.Core.Path.{_≡_, refl}
+use mathlib.Core.Path.{_≡_, refl, sym}
 use mathlib.Core.Bool.{Bool, true, false, not, _&&_, _||_}
 use Prim.Native.Nat.{ℕ}
 use lib.Dec.{eqb}
 use Rattle.types.specs.declared.PllRequest.{PllRequest}
 use Rattle.types.specs.declared.Request.{Request}
-use Rattle.types.specs.declared.Answer.the-variants.{Accepted}
 use Rattle.types.specs.declared.Refusal.the-variants.{AboveLimit, McoHseUnstated, Pll1PUnlikeSystem, SourceZero}
+use Rattle.types.specs.declared.Answer.the-variants.{Accepted}
+use Rattle.rules.specs.Document01.Result.{Result, refused, ok}
 use Rattle.rules.specs.Document01.Hertz.{isSet}
-use Rattle.rules.specs.Document01.Result.{Result, refused, ok, _>>=_, _>>_}
-use Rattle.rules.specs.Document01.Request.{within, fromHse1, fromHse2, sourceOf, systemOf, pll1Asked, pll2Asked, needsPll1, forSystemClock, sourced}
-use Rattle.config.specs.Config.{agreed, blank, configOf, configured, finished, finishedBy, pll1Final}
+use Rattle.rules.specs.Document01.Request.{within, fromHse1, fromHse2, sourceOf, systemOf, pllAt, pll1Asked, pll2Asked, systemFits, sourced, configured, like}
+use Rattle.config.specs.Config.{blank, settledBy, finished, finishedBy, pll1Final}
 
-unlike : (needs : Bool) (s : ℕ) (a : PllRequest) → agreed (a .p) needs s ≡ false → forSystemClock needs s a ≡ refused Pll1PUnlikeSystem
-unfolding forSystemClock
-unlike true s a e = rw e
-unlike false s a e = search
+-- a test and the other that it needs
+pub unlike : (a b : Bool) → a && not b ≡ true → not a || b ≡ false
+unlike true true e = sym e
+unlike true false e = refl
+unlike false b e = sym e
 
-alike : (needs : Bool) (s : ℕ) (a : PllRequest) → agreed (a .p) needs s ≡ true → forSystemClock needs s a ≡ ok (pll1Final a needs s)
-unfolding forSystemClock
-alike true s a e = rw e
-alike false s a e = refl
+pub alike : (a b : Bool) → a && not b ≡ false → not a || b ≡ true
+alike true true e = refl
+alike true false e = sym e
+alike false b e = refl
 
 -- refusals 5 and 6
-module _ (source system : ℕ) (a b : PllRequest) where
+module _ (source system : ℕ) (a b c : PllRequest) where
   abbrev test5 : Bool
-  test5 = agreed (a .p) (not (eqb system source)) system
+  test5 = not (not (eqb system source)) || like (a .p) system
 
-  pub five : test5 ≡ false → finished source system a b ≡ blank Pll1PUnlikeSystem
+  pub five : test5 ≡ false → finished source system a b c ≡ blank Pll1PUnlikeSystem
   unfolding finished
-  five e = rw (unlike (not (eqb system source)) system a e)
+  five e = rw e
 
-  pub six : test5 ≡ true → eqb source 0 ≡ true → finished source system a b ≡ blank SourceZero
+  pub six : test5 ≡ true → eqb source 0 ≡ true → finished source system a b c ≡ blank SourceZero
   unfolding finished
-  six e z = rw (alike (not (eqb system source)) system a e, z)
+  six e z = rw (e, z)
 
-  pub settled : test5 ≡ true → eqb source 0 ≡ false → finished source system a b ≡ record { answer = Accepted; source = source; system = system; needs = not (eqb system source); pll1 = pll1Final a (not (eqb system source)) system; pll2 = b }
+  pub settled : test5 ≡ true → eqb source 0 ≡ false → finished source system a b c ≡ finishedBy source system a b c (ok tt)
   unfolding finished
-  settled e z = rw (alike (not (eqb system source)) system a e, z)
+  settled e z = rw (e, z)
 
 -- refusals 3 and 4
 module _ (q : Request) where
@@ -47,18 +48,18 @@ module _ (q : Request) where
   abbrev test4 : Bool
   test4 = isSet (q .hse) || not (fromHse1 (q .mco1source) || fromHse2 (q .mco2source))
 
-  pub three : test3 ≡ false → configured q (configOf q) ≡ blank AboveLimit
-  unfolding configOf
+  pub three : test3 ≡ false → settledBy q (configured q) ≡ blank AboveLimit
+  unfolding configured
   three e = rw e
 
-  pub four : test3 ≡ true → test4 ≡ false → configured q (configOf q) ≡ blank McoHseUnstated
-  unfolding configOf
+  pub four : test3 ≡ true → test4 ≡ false → settledBy q (configured q) ≡ blank McoHseUnstated
+  unfolding configured
   four e f = rw (e, f)
 
-  same : (x : Result PllRequest) → configured q x ≡ finishedBy (sourceOf q) (systemOf q) (pll2Asked q) x
+  same : (x : Result (Unit {0})) → settledBy q x ≡ finishedBy (sourceOf q) (systemOf q) (pll1Asked q) (pll2Asked q) (pllAt q 2) x
   same (refused n) = refl
-  same (ok a) = refl
+  same (ok u) = refl
 
-  pub rest : test3 ≡ true → test4 ≡ true → configured q (configOf q) ≡ finished (sourceOf q) (systemOf q) (pll1Asked q) (pll2Asked q)
-  unfolding configOf finished
-  rest e f = rw (e, f) (same (forSystemClock (needsPll1 q) (systemOf q) (pll1Asked q) >>= λ a. sourced q >> ok a))
+  pub rest : test3 ≡ true → test4 ≡ true → settledBy q (configured q) ≡ finished (sourceOf q) (systemOf q) (pll1Asked q) (pll2Asked q) (pllAt q 2)
+  unfolding configured finished
+  rest e f = rw (e, f) (same (Rattle.rules.specs.Document01.Result._>>_ (systemFits q) (sourced q)))

@@ -1,7 +1,6 @@
 // Steps 2 and 3: what an MCO fills, and PLL1 P where the system clock needs it.
 ghost use mathlib.Core.Path.{_≡_};
 ghost use Rattle.rules.specs.Document01.Hertz as Hz;
-ghost use Rattle.rules.specs.Document01.Mco as Mco;
 ghost use Rattle.rules.specs.Document01.Request as Rules;
 ghost use Rattle.config.specs.Config as Config;
 use types::Hertz;
@@ -18,51 +17,69 @@ pub fn hertz_or(h: Hertz, other: u32) -> u32
     }
 }
 
-// MCO1's source as a number.
-pub fn mco1_code(s: Mco1Source) -> u32
-    ensures { λ r. ⌜ r ≡ Mco.mco1Code s ⌝ }
+// What is requested, else another.
+pub fn or_else(own: Hertz, other: Hertz) -> Hertz
+    ensures { λ r. ⌜ r ≡ Hz.orElse own other ⌝ }
 {
-    match s {
-        Mco1Source::Hsi => 0,
-        Mco1Source::Lse => 1,
-        Mco1Source::Hse => 2,
-        Mco1Source::Pll1Q => 3,
-        Mco1Source::Hsi48 => 4,
+    match own {
+        Hertz::Unset => other,
+        Hertz::Hz(f) => Hertz::Hz(f),
     }
 }
 
-// MCO2's source as a number.
-pub fn mco2_code(s: Mco2Source) -> u32
-    ensures { λ r. ⌜ r ≡ Mco.mco2Code s ⌝ }
+// MCO1's hertz, where PLL1 Q is its source.
+fn for_pll1_q(source: Mco1Source, mco1: Hertz) -> Hertz
+    ensures { λ r. ⌜ r ≡ Rules.forPll1Q source mco1 ⌝ }
 {
-    match s {
-        Mco2Source::Sysclk => 0,
-        Mco2Source::Pll2P => 1,
-        Mco2Source::Hse => 2,
-        Mco2Source::Pll1P => 3,
-        Mco2Source::Csi => 4,
-        Mco2Source::Lsi => 5,
+    match source {
+        Mco1Source::Hsi => Hertz::Unset,
+        Mco1Source::Lse => Hertz::Unset,
+        Mco1Source::Hse => Hertz::Unset,
+        Mco1Source::Pll1Q => mco1,
+        Mco1Source::Hsi48 => Hertz::Unset,
     }
 }
 
-// What is requested, else what the MCO is asked for if it is fed from here.
-fn fill(own: Hertz, from: bool, mco: Hertz) -> Hertz
-    ensures { λ r. ⌜ r ≡ Hz.orElse own (Config.fed from mco) ⌝ }
+// MCO2's hertz, where the system clock is its source.
+pub fn for_system(source: Mco2Source, mco2: Hertz) -> Hertz
+    ensures { λ r. ⌜ r ≡ Rules.forSystem source mco2 ⌝ }
 {
-    if let Hertz::Hz(f) = own {
-        return Hertz::Hz(f);
+    match source {
+        Mco2Source::Sysclk => mco2,
+        Mco2Source::Pll2P => Hertz::Unset,
+        Mco2Source::Hse => Hertz::Unset,
+        Mco2Source::Pll1P => Hertz::Unset,
+        Mco2Source::Csi => Hertz::Unset,
+        Mco2Source::Lsi => Hertz::Unset,
     }
-    if from {
-        return mco;
-    }
-    Hertz::Unset
 }
 
-// The system clock, filled by MCO2 from Sysclk.
-pub fn system_asked(system: Hertz, source: Mco2Source, mco2: Hertz) -> Hertz
-    ensures { λ r. ⌜ r ≡ Hz.orElse system (Rules.forSystem source mco2) ⌝ }
+// MCO2's hertz, where PLL2 P is its source.
+fn for_pll2_p(source: Mco2Source, mco2: Hertz) -> Hertz
+    ensures { λ r. ⌜ r ≡ Rules.forPll2P source mco2 ⌝ }
 {
-    fill(system, mco2_code(source) == 0, mco2)
+    match source {
+        Mco2Source::Sysclk => Hertz::Unset,
+        Mco2Source::Pll2P => mco2,
+        Mco2Source::Hse => Hertz::Unset,
+        Mco2Source::Pll1P => Hertz::Unset,
+        Mco2Source::Csi => Hertz::Unset,
+        Mco2Source::Lsi => Hertz::Unset,
+    }
+}
+
+// MCO2's hertz, where PLL1 P is its source.
+fn for_pll1_p(source: Mco2Source, mco2: Hertz) -> Hertz
+    ensures { λ r. ⌜ r ≡ Rules.forPll1P source mco2 ⌝ }
+{
+    match source {
+        Mco2Source::Sysclk => Hertz::Unset,
+        Mco2Source::Pll2P => Hertz::Unset,
+        Mco2Source::Hse => Hertz::Unset,
+        Mco2Source::Pll1P => mco2,
+        Mco2Source::Csi => Hertz::Unset,
+        Mco2Source::Lsi => Hertz::Unset,
+    }
 }
 
 // PLL1, its P and Q filled.
@@ -79,8 +96,8 @@ pub fn pll1_asked(
     let own_p = a.p;
     let own_q = a.q;
     let r = a.r;
-    let p = fill(own_p, mco2_code(source2) == 3, mco2);
-    let q = fill(own_q, mco1_code(source1) == 3, mco1);
+    let p = or_else(own_p, for_pll1_p(source2, mco2));
+    let q = or_else(own_q, for_pll1_q(source1, mco1));
     PllRequest { strategy, p, q, r }
 }
 
@@ -92,28 +109,18 @@ pub fn pll2_asked(a: PllRequest, source2: Mco2Source, mco2: Hertz) -> PllRequest
     let own_p = a.p;
     let q = a.q;
     let r = a.r;
-    let p = fill(own_p, mco2_code(source2) == 1, mco2);
+    let p = or_else(own_p, for_pll2_p(source2, mco2));
     PllRequest { strategy, p, q, r }
 }
 
 // P is unset, or like the system clock.
-fn like(p: Hertz, system: u32) -> bool
+pub fn like(p: Hertz, system: u32) -> bool
     ensures { λ r. ⌜ r ≡ Rules.like p system ⌝ }
 {
     match p {
         Hertz::Unset => true,
         Hertz::Hz(f) => f == system,
     }
-}
-
-// P is unset or like the system clock, where that needs it.
-pub fn agreed(p: Hertz, needs: bool, system: u32) -> bool
-    ensures { λ r. ⌜ r ≡ Config.agreed p needs system ⌝ }
-{
-    if needs {
-        return like(p, system);
-    }
-    true
 }
 
 // P at the system clock's hertz, where that needs it.

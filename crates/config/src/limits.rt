@@ -3,7 +3,6 @@ ghost use mathlib.Core.Path.{_≡_};
 ghost use mathlib.Core.Bool.{not, _&&_, _||_};
 ghost use Rattle.rules.specs.Document01.Hertz.{isSet};
 ghost use Rattle.rules.specs.Document01.Request as Rules;
-use crate::fills;
 use types::Hertz;
 use types::Mco1Source;
 use types::Mco2Source;
@@ -24,6 +23,31 @@ pub fn limited(system: Hertz, ahb: Hertz, apb1: Hertz, apb2: Hertz, apb3: Hertz)
     within(system) & (within(ahb) & (within(apb1) & (within(apb2) & within(apb3))))
 }
 
+fn from_hse1(source: Mco1Source) -> bool
+    ensures { λ r. ⌜ r ≡ Rules.fromHse1 source ⌝ }
+{
+    match source {
+        Mco1Source::Hsi => false,
+        Mco1Source::Lse => false,
+        Mco1Source::Hse => true,
+        Mco1Source::Pll1Q => false,
+        Mco1Source::Hsi48 => false,
+    }
+}
+
+fn from_hse2(source: Mco2Source) -> bool
+    ensures { λ r. ⌜ r ≡ Rules.fromHse2 source ⌝ }
+{
+    match source {
+        Mco2Source::Sysclk => false,
+        Mco2Source::Pll2P => false,
+        Mco2Source::Hse => true,
+        Mco2Source::Pll1P => false,
+        Mco2Source::Csi => false,
+        Mco2Source::Lsi => false,
+    }
+}
+
 // An MCO from HSE has HSE stated.
 pub fn stated(hse: Hertz, source1: Mco1Source, source2: Mco2Source) -> bool
     ensures { λ r. ⌜ r ≡ isSet hse || not (Rules.fromHse1 source1 || Rules.fromHse2 source2) ⌝ }
@@ -31,8 +55,5 @@ pub fn stated(hse: Hertz, source1: Mco1Source, source2: Mco2Source) -> bool
     if let Hertz::Hz(_) = hse {
         return true;
     }
-    if fills::mco1_code(source1) == 2 {
-        return false;
-    }
-    fills::mco2_code(source2) != 2
+    !(from_hse1(source1) | from_hse2(source2))
 }

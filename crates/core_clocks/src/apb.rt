@@ -1,15 +1,16 @@
 // The buses one after the other.
 ghost use mathlib.Core.Path.{_≡_};
+ghost use Rattle.rules.specs.Answers.{busResult, busesResult};
 ghost use Rattle.core_clocks.specs.CoreClocks as Spec;
-use crate::Buses;
-use crate::BusesAnswer;
-use prescaler::Bus;
-use prescaler::BusAnswer;
+use types::Bus;
+use types::BusAnswer;
+use types::Buses;
+use types::BusesAnswer;
 use types::Hertz;
 
 // From AHB's answer.
 pub fn from_ahb(answer: BusAnswer, apb1: Hertz, apb2: Hertz, apb3: Hertz) -> BusesAnswer
-    ensures { λ r. ⌜ r ≡ Spec.busesAnswer (Spec.fromAhb (Spec.busOf answer) apb1 apb2 apb3) ⌝ }
+    ensures { λ r. ⌜ busesResult r ≡ Spec.fromAhb (busResult answer) apb1 apb2 apb3 ⌝ }
 {
     match answer {
         BusAnswer::Refused(n) => {
@@ -22,7 +23,7 @@ pub fn from_ahb(answer: BusAnswer, apb1: Hertz, apb2: Hertz, apb3: Hertz) -> Bus
 }
 
 fn apbs(ahb: Bus, apb1: Hertz, apb2: Hertz, apb3: Hertz) -> BusesAnswer
-    ensures { λ r. ⌜ r ≡ Spec.busesAnswer (Spec.apbsOf ahb apb1 apb2 apb3) ⌝ }
+    ensures { λ r. ⌜ busesResult r ≡ Spec.apbsOf ahb apb1 apb2 apb3 ⌝ }
 {
     let hclk = ahb.clock;
     all(
@@ -35,7 +36,7 @@ fn apbs(ahb: Bus, apb1: Hertz, apb2: Hertz, apb3: Hertz) -> BusesAnswer
 
 // The first refusal, or all four.
 fn all(ahb: Bus, first: BusAnswer, second: BusAnswer, third: BusAnswer) -> BusesAnswer
-    ensures { λ r. ⌜ r ≡ Spec.busesAnswer (Spec.allOf ahb (Spec.busOf first) (Spec.busOf second) (Spec.busOf third)) ⌝ }
+    ensures { λ r. ⌜ busesResult r ≡ Spec.allOf ahb (busResult first) (busResult second) (busResult third) ⌝ }
 {
     match first {
         BusAnswer::Refused(n) => {

@@ -1,21 +1,22 @@
 // The clock outputs one after the other.
 ghost use mathlib.Core.Path.{_≡_};
+ghost use Rattle.rules.specs.Answers.{inputResult, mcoResult, mcosResult};
 ghost use Rattle.core_clocks.specs.CoreClocks as Spec;
-use crate::Mcos;
-use crate::McosAnswer;
-use crate::sources::Input;
-use prescaler::McoAnswer;
 use types::Hertz;
+use types::InputAnswer;
+use types::McoAnswer;
+use types::Mcos;
+use types::McosAnswer;
 
 // One output, from its source's clock.
-pub fn output(input: Input, requested: Hertz) -> McoAnswer
-    ensures { λ r. ⌜ r ≡ Spec.mcoAnswer (Spec.outputOf (Spec.inputOf input) requested) ⌝ }
+pub fn output(input: InputAnswer, requested: Hertz) -> McoAnswer
+    ensures { λ r. ⌜ mcoResult r ≡ Spec.outputOf (inputResult input) requested ⌝ }
 {
     match input {
-        Input::Refused(n) => {
+        InputAnswer::Refused(n) => {
             return McoAnswer::Refused(n);
         }
-        Input::Clock(clock) => {
+        InputAnswer::Clock(clock) => {
             return prescaler::mco(clock, requested);
         }
     }
@@ -23,18 +24,18 @@ pub fn output(input: Input, requested: Hertz) -> McoAnswer
 
 // The first refusal, or both.
 pub fn both(first: McoAnswer, second: McoAnswer) -> McosAnswer
-    ensures { λ r. ⌜ r ≡ Spec.mcosAnswer (Spec.bothOf (Spec.mcoOf first) (Spec.mcoOf second)) ⌝ }
+    ensures { λ r. ⌜ mcosResult r ≡ Spec.bothOf (mcoResult first) (mcoResult second) ⌝ }
 {
     match first {
         McoAnswer::Refused(n) => {
             return McosAnswer::Refused(n);
         }
-        McoAnswer::Prescaler(mco1) => match second {
+        McoAnswer::Prescaled(mco1) => match second {
             McoAnswer::Refused(n) => {
                 return McosAnswer::Refused(n);
             }
-            McoAnswer::Prescaler(mco2) => {
-                return McosAnswer::Prescalers(Mcos { mco1, mco2 });
+            McoAnswer::Prescaled(mco2) => {
+                return McosAnswer::Prescaled(Mcos { mco1, mco2 });
             }
         },
     }

@@ -4,20 +4,16 @@ ghost use Rattle.rules.specs.Document01.Hertz as Hz;
 ghost use Rattle.rules.specs.Document01.OnePll as Rules;
 ghost use Rattle.rules.specs.Document01.Mco as Mco;
 ghost use Rattle.rules.specs.Document01.Buses as Step5;
+ghost use Rattle.rules.specs.Answers.{inputResult};
 ghost use Rattle.core_clocks.specs.CoreClocks as Spec;
-use crate::Selected;
 use types::Hertz;
+use types::InputAnswer;
 use types::Mco1Source;
 use types::Mco2Source;
 use types::Pll;
 use types::PllOutput;
 use types::Refusal;
-
-// The clock of an MCO's source, or a refusal.
-pub enum Input {
-    Clock(u32),
-    Refused(Refusal),
-}
+use types::Selected;
 
 pub fn hertz_or_0(h: Hertz) -> u32
     ensures { λ r. ⌜ r ≡ Hz.hertzOr h 0 ⌝ }
@@ -63,67 +59,73 @@ pub fn q_clock(pll: Pll) -> Hertz
 }
 
 // Refusal 21.
-fn planned(h: Hertz) -> Input
-    ensures { λ r. ⌜ r ≡ Spec.inputAnswer (Mco.planned h) ⌝ }
+fn planned(h: Hertz) -> InputAnswer
+    ensures { λ r. ⌜ inputResult r ≡ Mco.planned h ⌝ }
 {
     match h {
-        Hertz::Unset => Input::Refused(Refusal::McoNoOutput),
-        Hertz::Hz(f) => Input::Clock(f),
+        Hertz::Unset => InputAnswer::Refused(Refusal::McoNoOutput),
+        Hertz::Hz(f) => InputAnswer::Clock(f),
     }
 }
 
 // Refusals 20 and 21, by the clock of PLL1 Q.
-pub fn mco1_input(source: Mco1Source, hse: Hertz, pll1: Hertz) -> Input
-    ensures { λ r. ⌜ r ≡ Spec.inputAnswer (Mco.mco1Input source hse pll1) ⌝ }
+pub fn mco1_input(source: Mco1Source, hse: Hertz, pll1: Hertz) -> InputAnswer
+    ensures { λ r. ⌜ inputResult r ≡ Mco.mco1Input source hse pll1 ⌝ }
 {
     match source {
         Mco1Source::Hsi => {
-            return Input::Clock(32_000_000);
+            return InputAnswer::Clock(32_000_000);
         }
         Mco1Source::Lse => {
-            return Input::Refused(Refusal::Mco1Lse);
+            return InputAnswer::Refused(Refusal::Mco1Lse);
         }
         Mco1Source::Hse => {
-            return Input::Clock(hertz_or_0(hse));
+            return InputAnswer::Clock(hertz_or_0(hse));
         }
         Mco1Source::Pll1Q => {
             return planned(pll1);
         }
         Mco1Source::Hsi48 => {
-            return Input::Clock(48_000_000);
+            return InputAnswer::Clock(48_000_000);
         }
     }
 }
 
 // Refusal 21, by the clocks of PLL1 P and PLL2 P.
-pub fn mco2_input(source: Mco2Source, system: u32, hse: Hertz, pll1: Hertz, pll2: Hertz) -> Input
-    ensures { λ r. ⌜ r ≡ Spec.inputAnswer (Mco.mco2Input source system hse pll1 pll2) ⌝ }
+pub fn mco2_input(
+    source: Mco2Source,
+    system: u32,
+    hse: Hertz,
+    pll1: Hertz,
+    pll2: Hertz,
+) -> InputAnswer
+    ensures { λ r. ⌜ inputResult r ≡ Mco.mco2Input source system hse pll1 pll2 ⌝ }
 {
     match source {
         Mco2Source::Sysclk => {
-            return Input::Clock(system);
+            return InputAnswer::Clock(system);
         }
         Mco2Source::Pll2P => {
             return planned(pll2);
         }
         Mco2Source::Hse => {
-            return Input::Clock(hertz_or_0(hse));
+            return InputAnswer::Clock(hertz_or_0(hse));
         }
         Mco2Source::Pll1P => {
             return planned(pll1);
         }
         Mco2Source::Csi => {
-            return Input::Clock(4_000_000);
+            return InputAnswer::Clock(4_000_000);
         }
         Mco2Source::Lsi => {
-            return Input::Clock(32_000);
+            return InputAnswer::Clock(32_000);
         }
     }
 }
 
 // CSI at 4,000,000 Hz, else HSI.
 fn csi_or_hsi(h: u32) -> Selected
-    ensures { λ r. ⌜ r ≡ Spec.selected (Step5.csiOrHsi h) ⌝ }
+    ensures { λ r. ⌜ r ≡ Step5.csiOrHsi h ⌝ }
 {
     if h == 4_000_000 {
         return Selected {
@@ -139,7 +141,7 @@ fn csi_or_hsi(h: u32) -> Selected
 
 // A peripheral clock that is requested.
 pub fn of_peripheral(h: u32, hse: Hertz) -> Selected
-    ensures { λ r. ⌜ r ≡ Spec.selected (Step5.peripheralOf (Spec.hertz h) hse) ⌝ }
+    ensures { λ r. ⌜ r ≡ Step5.peripheralOf (Spec.hertz h) hse ⌝ }
 {
     match hse {
         Hertz::Unset => csi_or_hsi(h),

@@ -18,10 +18,10 @@ use Rattle.types.specs.declared.PllPlan.{PllPlan}
 use Rattle.types.specs.declared.Plan.{Plan}
 use Rattle.rules.specs.Document01.Fields
 use Rattle.rules.specs.Document01.Fields.{ofPll}
-use Rattle.rules.specs.Document01.Entries.{outputEntries, fractionEntries, settingEntries, setupEntries, hseEntries, sourceEntries, outputStart, startEntries, planEntries}
-use Rattle.fields.specs.Segments.{pllOf, setups, starts}
+use Rattle.rules.specs.Document01.Entries.{outputEntries, fractionEntries, settingEntries, setupEntries, hseEntries, sourceEntries, outputStart, startEntries, planEntries, setups, starts, clockEntries, busEntries}
+use Rattle.rules.specs.Document01.OnePll.{pllFrom}
 use Rattle.entries.specs.Counts.{outputCount, fractionCount, settingCount, setupCount, setupsCount, hseCount, sourceCount, outputStartCount, startCount, startsCount}
-use Rattle.fields.proofs.Whole.{parts}
+use Rattle.entries.proofs.Whole.{parts}
 
 pub fraction-length : (j : ℕ) (f : Fraction) → fractionCount f ≡ length (fractionEntries j f)
 fraction-length j Whole = refl
@@ -46,9 +46,9 @@ setup-length j (Runs s) = setting-length j s
 
 pub setups-length : (plls : List PllPlan) → setupsCount plls ≡ length (setups plls)
 setups-length plls =
-    let a = setup-length 0 (pllOf plls 0) in
-    let b = setup-length 1 (pllOf plls 1) in
-    let c = setup-length 2 (pllOf plls 2) in
+    let a = setup-length 0 (pllFrom plls 0) in
+    let b = setup-length 1 (pllFrom plls 1) in
+    let c = setup-length 2 (pllFrom plls 2) in
     simp length-append (omega arith)
 
 pub hse-length : (h : Hertz) (b : Bool) → hseCount h ≡ length (hseEntries h b)
@@ -69,14 +69,15 @@ start-length j (Runs s) = output-start-length j (s .p)
 
 pub starts-length : (plls : List PllPlan) → startsCount plls ≡ length (starts plls)
 starts-length plls =
-    let a = start-length 0 (pllOf plls 0) in
-    let b = start-length 1 (pllOf plls 1) in
-    let c = start-length 2 (pllOf plls 2) in
+    let a = start-length 0 (pllFrom plls 0) in
+    let b = start-length 1 (pllFrom plls 1) in
+    let c = start-length 2 (pllFrom plls 2) in
     simp length-append (omega arith)
 
 -- the whole list
-pub plan-length : (p : Plan) → setupsCount (p .plls) + 9 + hseCount (p .hse) + sourceCount (p .three) + startsCount (p .plls) + 10 ≡ length (planEntries p)
+pub plan-length : (p : Plan) → setupsCount (p .plls) + 9 + hseCount (p .clocks .hse) + sourceCount (p .three) + startsCount (p .plls) + 10 ≡ length (planEntries p)
+unfolding clockEntries busEntries
 plan-length p =
-    let b = hse-length (p .hse) (p .bypass) in
-    let c = source-length (p .three) (p .src) in
-    rw (parts, setups-length (p .plls), starts-length (p .plls)) (simp length-append (omega arith))
+    let b = hse-length (p .clocks .hse) (p .bypass) in
+    let c = source-length (p .three) (p .selectors .src) in
+    rw (parts p, setups-length (p .plls), starts-length (p .plls)) (simp length-append (omega arith))

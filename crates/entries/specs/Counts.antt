@@ -12,7 +12,7 @@ use Rattle.types.specs.declared.PllSettings.{PllSettings}
 use Rattle.types.specs.declared.Pll.{Pll}
 use Rattle.types.specs.declared.Pll.the-variants.{Idle, Runs}
 use Rattle.types.specs.declared.PllPlan.{PllPlan}
-use Rattle.fields.specs.Segments.{pllOf}
+use Rattle.rules.specs.Document01.OnePll.{pllFrom}
 
 -- if Fractional FRACN, FRACEN 0, FRACEN 1
 abbrev pub fractionCount : Fraction → ℕ
@@ -35,7 +35,7 @@ setupCount (Runs s) = settingCount s
 
 -- for each PLL, what sets it up
 abbrev pub setupsCount : List PllPlan → ℕ
-setupsCount plls = setupCount (pllOf plls 0) + setupCount (pllOf plls 1) + setupCount (pllOf plls 2)
+setupsCount plls = setupCount (pllFrom plls 0) + setupCount (pllFrom plls 1) + setupCount (pllFrom plls 2)
 
 -- with HSE: HSEON, HSEBYP together, wait HSERDY
 abbrev pub hseCount : Hertz → ℕ
@@ -59,4 +59,4 @@ startCount (Runs s) = outputStartCount (s .p)
 
 -- each PLL that has P is started
 abbrev pub startsCount : List PllPlan → ℕ
-startsCount plls = startCount (pllOf plls 0) + startCount (pllOf plls 1) + startCount (pllOf plls 2)
+startsCount plls = startCount (pllFrom plls 0) + startCount (pllFrom plls 1) + startCount (pllFrom plls 2)

@@ -7,7 +7,8 @@ use Rattle.types.specs.declared.Entry.the-variants.{Set, Read}
 use Rattle.types.specs.declared.PllOutput.{PllOutput}
 use Rattle.rules.specs.Document01.Fields
 use Rattle.rules.specs.Document01.Fields.{ofPll}
-use Rattle.rules.specs.Document01.Entries.{outputEntries}
+use Rattle.types.specs.declared.Plan.{Plan}
+use Rattle.rules.specs.Document01.Entries.{hseEntries, sourceEntries, starts, busEntries, outputEntries}
 use Rattle.entries.specs.declared.EntryAt.{EntryAt}
 use Rattle.entries.specs.declared.EntryAt.the-variants.{Is, Past}
 
@@ -31,3 +32,9 @@ abbrev pub outputsOf : (j : ℕ) → (p q r : PllOutput) → List Entry
 outputsOf j p q r =
     outputEntries (ofPll j Fields.P) (ofPll j Fields.PEN) p
     ++ (outputEntries (ofPll j Fields.Q) (ofPll j Fields.QEN) q ++ outputEntries (ofPll j Fields.R) (ofPll j Fields.REN) r)
+
+-- Register entries, from HSE on: HSE, each SRC, the starts, the buses
+abbrev pub afterClocks : Plan → List Entry
+afterClocks p =
+    hseEntries (p .clocks .hse) (p .bypass)
+    ++ (sourceEntries (p .three) (p .selectors .src) ++ (starts (p .plls) ++ busEntries (p .buses) (p .selectors)))

@@ -1,7 +1,7 @@
 // How many entries does each part of the list have? Document 01, Register entries.
 ghost use mathlib.Core.Path.{_≡_};
 ghost use Prim.Native.Nat.{_≤_, _<_};
-ghost use Rattle.fields.specs.Segments.{pllOf};
+ghost use Rattle.rules.specs.Document01.OnePll.{pllFrom};
 ghost use Rattle.entries.specs.Counts.{outputCount, fractionCount, settingCount, setupCount, setupsCount, hseCount, sourceCount, outputStartCount, startCount, startsCount};
 use types::Fraction;
 use types::Hertz;
@@ -48,7 +48,7 @@ fn setting(s: PllSettings) -> usize
 // PLL j of three.
 pub fn pll(plls: [PllPlan; 3], j: usize) -> Pll
     requires { ⌜ j < 3 ⌝ }
-    ensures { λ r. ⌜ r ≡ pllOf plls j ⌝ }
+    ensures { λ r. ⌜ r ≡ pllFrom plls j ⌝ }
 {
     let a = plls[j];
     a.pll
@@ -57,7 +57,7 @@ pub fn pll(plls: [PllPlan; 3], j: usize) -> Pll
 // PLL j of three: one that is skipped adds none.
 pub fn setup(plls: [PllPlan; 3], j: usize) -> usize
     requires { ⌜ j < 3 ⌝ }
-    ensures { λ r. ⌜ (r ≡ setupCount (pllOf plls j)) × (r ≤ 13) ⌝ }
+    ensures { λ r. ⌜ (r ≡ setupCount (pllFrom plls j)) × (r ≤ 13) ⌝ }
 {
     let x = pll(plls, j);
     match x {
@@ -106,7 +106,7 @@ fn output_start(o: PllOutput) -> usize
 // PLL j of three, where it runs.
 pub fn start(plls: [PllPlan; 3], j: usize) -> usize
     requires { ⌜ j < 3 ⌝ }
-    ensures { λ r. ⌜ (r ≡ startCount (pllOf plls j)) × (r ≤ 2) ⌝ }
+    ensures { λ r. ⌜ (r ≡ startCount (pllFrom plls j)) × (r ≤ 2) ⌝ }
 {
     let x = pll(plls, j);
     match x {

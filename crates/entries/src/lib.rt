@@ -2,8 +2,7 @@
 ghost use mathlib.Core.Path.{_≡_};
 ghost use Rattle.rules.specs.Document01.Entries.{entriesOf, planEntries};
 ghost use lib.ListN.{length};
-ghost use Rattle.fields.specs.Segments.{afterClocks};
-ghost use Rattle.entries.specs.Place.{entryAt};
+ghost use Rattle.entries.specs.Place.{entryAt, afterClocks};
 use fields::SRC;
 use types::Answer;
 use types::Entry;
@@ -30,7 +29,8 @@ fn plan_count(plan: Plan) -> usize
     ensures { λ r. ⌜ r ≡ length (planEntries plan) ⌝ }
 {
     let plls = plan.plls;
-    let hse = plan.hse;
+    let given = plan.clocks;
+    let hse = given.hse;
     let a = counts::setups(plls);
     let b = counts::hse(hse);
     let c = counts::sources(plan.three);
@@ -67,15 +67,7 @@ fn plan_at(plan: Plan, k: usize) -> EntryAt
     }
     let l = k - a;
     if l < 9 {
-        return EntryAt::Is(places::clock_at(
-            plan.delay,
-            plan.latency,
-            plan.mco1sel,
-            plan.mco1pre,
-            plan.mco2sel,
-            plan.mco2pre,
-            l,
-        ));
+        return EntryAt::Is(places::clock_at(plan.waits, plan.selectors, plan.mcos, l));
     }
     after_clocks(plan, l - 9)
 }
@@ -85,7 +77,8 @@ fn after_clocks(plan: Plan, k: usize) -> EntryAt
     ensures { λ r. ⌜ r ≡ entryAt (afterClocks plan) k ⌝ }
 {
     let plls = plan.plls;
-    let hse = plan.hse;
+    let given = plan.clocks;
+    let hse = given.hse;
     let a = counts::hse(hse);
     if k < a {
         return EntryAt::Is(places::hse_at(plan.bypass, k));
@@ -93,20 +86,12 @@ fn after_clocks(plan: Plan, k: usize) -> EntryAt
     let l = k - a;
     let b = counts::sources(plan.three);
     if l < b {
-        return EntryAt::Is(Entry::Set(15 * l + SRC, plan.src));
+        return EntryAt::Is(Entry::Set(15 * l + SRC, plan.selectors.src));
     }
     let m = l - b;
     let c = counts::starts(plls);
     if m < c {
         return EntryAt::Is(places::starts_at(plls, m));
     }
-    places::bus_at(
-        plan.hpre,
-        plan.ppre1,
-        plan.ppre2,
-        plan.ppre3,
-        plan.ckpersel,
-        plan.sw,
-        m - c,
-    )
+    places::bus_at(plan.buses, plan.selectors, m - c)
 }

@@ -3,19 +3,22 @@ ghost use mathlib.Core.Path.{_≡_};
 ghost use Prim.Native.Nat.{_<_};
 ghost use Rattle.types.specs.declared.Hertz.the-variants.{Hz};
 ghost use Rattle.types.specs.declared.PllOutput.the-variants.{On};
-ghost use Rattle.rules.specs.Document01.Entries.{outputEntries, fractionEntries, settingEntries, setupEntries, hseEntries, outputStart};
-ghost use Rattle.fields.specs.Segments.{setups, clockList, starts, busList};
+ghost use Rattle.rules.specs.Document01.Entries.{outputEntries, fractionEntries, settingEntries, setupEntries, hseEntries, outputStart, setups, clockEntries, starts, busEntries};
 ghost use Rattle.entries.specs.Counts.{startsCount};
 ghost use Rattle.entries.specs.Place.{entryAt, entryOr, baseOf, outputsOf};
 use crate::EntryAt;
 use crate::counts;
 use fields::*;
+use types::Buses;
 use types::Entry;
 use types::Fraction;
+use types::Mcos;
 use types::Pll;
 use types::PllOutput;
 use types::PllPlan;
 use types::PllSettings;
+use types::Selectors;
+use types::Waits;
 
 // Each PLL: VCOSEL; RGE; M; N − 1.
 fn base_at(j: usize, vcosel: u32, rge: u32, m: u32, n: u32, k: usize) -> Entry
@@ -131,35 +134,34 @@ pub fn setups_at(plls: [PllPlan; 3], k: usize) -> Entry
 }
 
 // LSI; flash; CSI; HSI48; the MCOs.
-pub fn clock_at(
-    delay: u32,
-    latency: u32,
-    mco1sel: u32,
-    mco1pre: u32,
-    mco2sel: u32,
-    mco2pre: u32,
-    k: usize,
-) -> Entry
-    ensures { λ r. ⌜ r ≡ entryOr (clockList delay latency mco1sel mco1pre mco2sel mco2pre) k ⌝ }
+pub fn clock_at(w: Waits, s: Selectors, m: Mcos, k: usize) -> Entry
+    ensures { λ r. ⌜ r ≡ entryOr (clockEntries w s m) k ⌝ }
 {
     match k {
         0 => Entry::Set(LSION, 1),
         1 => Entry::Wait(LSIRDY, 1),
-        2 => Entry::Set3(WRHIGHFREQ, delay, LATENCY, latency, PRFTEN, prften(latency)),
-        3 => Entry::Wait(LATENCY, latency),
+        2 => Entry::Set3(
+            WRHIGHFREQ,
+            w.delay,
+            LATENCY,
+            w.latency,
+            PRFTEN,
+            prften(w.latency),
+        ),
+        3 => Entry::Wait(LATENCY, w.latency),
         4 => Entry::Set(CSION, 1),
         5 => Entry::Wait(CSIRDY, 1),
         6 => Entry::Set(HSI48ON, 1),
         7 => Entry::Wait(HSI48RDY, 1),
         8 => Entry::Set4(
             MCO1SEL,
-            mco1sel,
+            s.mco1sel,
             MCO1PRE,
-            mco1pre,
+            m.mco1.pre,
             MCO2SEL,
-            mco2sel,
+            s.mco2sel,
             MCO2PRE,
-            mco2pre,
+            m.mco2.pre,
         ),
         _ => Entry::Read(0),
     }
@@ -206,24 +208,25 @@ pub fn starts_at(plls: [PllPlan; 3], k: usize) -> Entry
 }
 
 // The prescalers, the selectors, the check of CSIRDY and the compensation cell: the list ends with them.
-pub fn bus_at(
-    hpre: u32,
-    ppre1: u32,
-    ppre2: u32,
-    ppre3: u32,
-    ckpersel: u32,
-    sw: u32,
-    k: usize,
-) -> EntryAt
-    ensures { λ r. ⌜ r ≡ entryAt (busList hpre ppre1 ppre2 ppre3 ckpersel sw) k ⌝ }
+pub fn bus_at(b: Buses, s: Selectors, k: usize) -> EntryAt
+    ensures { λ r. ⌜ r ≡ entryAt (busEntries b s) k ⌝ }
 {
     match k {
-        0 => EntryAt::Is(Entry::Set4(HPRE, hpre, PPRE1, ppre1, PPRE2, ppre2, PPRE3, ppre3)),
-        1 => EntryAt::Is(Entry::Wait(HPRE, hpre)),
-        2 => EntryAt::Is(Entry::Set(CKPERSEL, ckpersel)),
+        0 => EntryAt::Is(Entry::Set4(
+            HPRE,
+            b.ahb.pre,
+            PPRE1,
+            b.apb1.pre,
+            PPRE2,
+            b.apb2.pre,
+            PPRE3,
+            b.apb3.pre,
+        )),
+        1 => EntryAt::Is(Entry::Wait(HPRE, b.ahb.pre)),
+        2 => EntryAt::Is(Entry::Set(CKPERSEL, s.ckpersel)),
         3 => EntryAt::Is(Entry::Set(TIMPRE, 0)),
-        4 => EntryAt::Is(Entry::Set(SW, sw)),
-        5 => EntryAt::Is(Entry::Wait(SWS, sw)),
+        4 => EntryAt::Is(Entry::Set(SW, s.sw)),
+        5 => EntryAt::Is(Entry::Wait(SWS, s.sw)),
         6 => EntryAt::Is(Entry::Check(CSIRDY, 1)),
         7 => EntryAt::Is(Entry::Set(SBSEN, 1)),
         8 => EntryAt::Is(Entry::Set4(EN1, 1, CS1, 0, EN2, 1, CS2, 0)),

@@ -29,18 +29,25 @@ use Rattle.laws.proofs.Tests.{either, and-right, at-each}
 use Rattle.rules.specs.Document01.Result.{Result, refused, ok, require}
 use Rattle.rules.specs.Document01.Hertz.{ratioOf, hertzOr, notZero}
 use Rattle.rules.specs.Document01.Request.{sourceOf, askedOf}
-use Rattle.rules.specs.Document01.OnePll.{firstOf, pClock, qClock}
-use Rattle.rules.specs.Document01.Buses.{hpreOf, ppreOf, Bus, hpreFor, ahbOf, apbOf}
-use Rattle.rules.specs.Document01.Mco.{Mco, mco1Input, mco2Input, mcoOf}
-use Rattle.rules.specs.Document01.Plan.{Plls, pllsOf, hsiReady, systemFrom, Buses, busesOf, Mcos, mcosOf, planWith, chosenPlan, answered, answerTo}
-use Rattle.rules.specs.Document01.Entries.{outputEntries, fractionEntries, baseEntries, settingEntries, setupEntries, pllIn, prftenOf, clockEntries, bit, hseEntries, sourceEntries, outputStart, startEntries, busEntries, planEntries, entriesOf}
+use Rattle.rules.specs.Document01.OnePll.{firstOf, pClock, qClock, pllFrom}
+use Rattle.rules.specs.Document01.Buses.{hpreOf, ppreOf, hpreFor, ahbOf, apbOf}
+use Rattle.rules.specs.Document01.Mco.{mco1Input, mco2Input, mcoOf}
+use Rattle.rules.specs.Document01.Plan.{pllsOf, hsiReady, systemFrom, busesOf, mcosOf, planWith, chosenPlan, answered, answerTo}
+use Rattle.rules.specs.Document01.Entries.{outputEntries, fractionEntries, baseEntries, settingEntries, setupEntries, pllIn, prftenOf, clockEntries, bit, hseEntries, sourceEntries, outputStart, startEntries, busEntries, planEntries, entriesOf, listWith}
 use Rattle.rules.specs.Document01.Bank.{applyAll, resetBank}
 use Rattle.rules.specs.Manual.Path.{PllName, pll1, pll2, pll3}
 use Rattle.rules.specs.Manual.Tree.{number, word}
 use Rattle.rules.specs.Demands.Legal.{LegalOutput, LegalVco, LegalPll, LegalThird, LegalPlan}
+use Rattle.rules.proofs.Document01.Ratios.{hpre-most, ppre-most}
 use Rattle.rules.proofs.Document01.Results.{Holds, holds-then, holds-next, holds-tested, holds-known}
 use Rattle.rules.proofs.Legal.Plan.{plan-legal}
 use Rattle.fields.proofs.Join.{apply-append}
+use Rattle.types.specs.declared.Bus.{Bus}
+use Rattle.types.specs.declared.Mco.{Mco}
+use Rattle.types.specs.declared.Buses.{Buses}
+use Rattle.types.specs.declared.Mcos.{Mcos}
+use Rattle.types.specs.declared.PllPlan.{PllPlan}
+use Rattle.rules.specs.Document01.Chip.{oddAt}
 
 -- ---- the highest value of a field, 0 where any will do. A PLL's: M, N − 1, FRACN and the dividers − 1
 abbrev pub pllLimit : ℕ → ℕ
@@ -150,19 +157,6 @@ BusesMost b = BusMost 512 (b .ahb) × BusMost 16 (b .apb1) × BusMost 16 (b .apb
 abbrev McosMost : Mcos → Type 0
 McosMost m = McoMost (m .mco1) × McoMost (m .mco2)
 
-hpre-most : (r : ℕ) → hpreOf r ≤ 512
-hpre-most r =
-    let F : ℕ → Type 0 = λ n. n ≤ 512 in
-    either F (leb r 1) _ _ (omega arith) (either F (leb r 2) _ _ (omega arith) (either F (leb r 5) _ _ (omega arith)
-    (either F (leb r 11) _ _ (omega arith) (either F (leb r 39) _ _ (omega arith) (either F (leb r 95) _ _ (omega arith)
-    (either F (leb r 191) _ _ (omega arith) (either F (leb r 383) _ _ (omega arith) (omega arith))))))))
-
-ppre-most : (r : ℕ) → ppreOf r ≤ 16
-ppre-most r =
-    let F : ℕ → Type 0 = λ n. n ≤ 16 in
-    either F (leb r 1) _ _ (omega arith) (either F (leb r 2) _ _ (omega arith)
-    (either F (leb r 5) _ _ (omega arith) (either F (leb r 11) _ _ (omega arith) (omega arith))))
-
 ahb-most : (system : ℕ) (h : Hertz) → Holds (BusMost 512) (ahbOf system h)
 unfolding ahbOf
 ahb-most system h =
@@ -189,41 +183,41 @@ buses-most q system =
     (λ x i. holds-known BusesMost (BusMost 16) (apbOf (b .clock) (q .apb2)) _ (apb-most (b .clock) (q .apb2))
     (λ y j. holds-known BusesMost (BusMost 16) (apbOf (b .clock) (q .apb3)) _ (apb-most (b .clock) (q .apb3)) (λ z k. (h, i, j, k)))))
 
-mcos-most : (q : Request) (l : Plls) (system : ℕ) → Holds McosMost (mcosOf q l system)
+mcos-most : (q : Request) (l : List PllPlan) (system : ℕ) → Holds McosMost (mcosOf q l system)
 unfolding mcosOf
 mcos-most q l system =
-    holds-then McosMost (mco1Input (q .mco1source) (q .hse) (qClock (l .pll1))) _
+    holds-then McosMost (mco1Input (q .mco1source) (q .hse) (qClock (pllFrom l 0))) _
     (λ i. holds-known McosMost McoMost (mcoOf i (q .mco1)) _ (mco-most i (q .mco1))
-    (λ x h. holds-then McosMost (mco2Input (q .mco2source) system (q .hse) (pClock (l .pll1)) (pClock (l .pll2))) _
+    (λ x h. holds-then McosMost (mco2Input (q .mco2source) system (q .hse) (pClock (pllFrom l 0)) (pClock (pllFrom l 1))) _
     (λ j. holds-known McosMost McoMost (mcoOf j (q .mco2)) _ (mco-most j (q .mco2)) (λ y k. (h, k)))))
 
 -- ---- the entries of no PLL
 module _ (p : Plan) where
-  clocks-keep : p .mco1pre ≤ 15 → p .mco2pre ≤ 15 → Keeps (clockEntries p)
+  clocks-keep : p .mcos .mco1 .pre ≤ 15 → p .mcos .mco2 .pre ≤ 15 → Keeps (clockEntries (p .waits) (p .selectors) (p .mcos))
   unfolding clockEntries
   clocks-keep h i =
-      by λ b w. put 57 (p .mco2pre) (le-leb _ 15 i) (put 56 (p .mco2sel) refl (put 55 (p .mco1pre) (le-leb _ 15 h) (put 54 (p .mco1sel) refl
-      (put 52 1 refl (put 50 1 refl (put 49 (prftenOf (p .latency)) refl (put 48 (p .latency) refl (put 47 (p .delay) refl
+      by λ b w. put 57 (p .mcos .mco2 .pre) (le-leb _ 15 i) (put 56 (p .selectors .mco2sel) refl (put 55 (p .mcos .mco1 .pre) (le-leb _ 15 h) (put 54 (p .selectors .mco1sel) refl
+      (put 52 1 refl (put 50 1 refl (put 49 (prftenOf (p .waits .latency)) refl (put 48 (p .waits .latency) refl (put 47 (p .waits .delay) refl
       (put 45 1 refl w)))))))))
 
   hse-keeps : (x : Hertz) → Keeps (hseEntries x (p .bypass))
   hse-keeps Unset = by λ b w. w
   hse-keeps (Hz h) = by λ b w. put 59 (bit (p .bypass)) refl (put 58 1 refl w)
 
-  source-keeps : (three : Bool) → Keeps (sourceEntries three (p .src))
-  source-keeps true = by λ b w. put 42 (p .src) refl (put 27 (p .src) refl (put 12 (p .src) refl w))
-  source-keeps false = by λ b w. put 27 (p .src) refl (put 12 (p .src) refl w)
+  source-keeps : (three : Bool) → Keeps (sourceEntries three (p .selectors .src))
+  source-keeps true = by λ b w. put 42 (p .selectors .src) refl (put 27 (p .selectors .src) refl (put 12 (p .selectors .src) refl w))
+  source-keeps false = by λ b w. put 27 (p .selectors .src) refl (put 12 (p .selectors .src) refl w)
 
-  buses-keep : p .hpre ≤ 512 → p .ppre1 ≤ 16 → p .ppre2 ≤ 16 → p .ppre3 ≤ 16 → Keeps (busEntries p)
+  buses-keep : p .buses .ahb .pre ≤ 512 → p .buses .apb1 .pre ≤ 16 → p .buses .apb2 .pre ≤ 16 → p .buses .apb3 .pre ≤ 16 → Keeps (busEntries (p .buses) (p .selectors))
   unfolding busEntries
   buses-keep h i j k =
-      by λ b w. put 73 0 refl (put 72 1 refl (put 71 0 refl (put 70 1 refl (put 69 1 refl (put 67 (p .sw) refl (put 66 0 refl
-      (put 65 (p .ckpersel) refl (put 64 (p .ppre3) (le-leb _ 16 k) (put 63 (p .ppre2) (le-leb _ 16 j) (put 62 (p .ppre1) (le-leb _ 16 i)
-      (put 61 (p .hpre) (le-leb _ 512 h) w)))))))))))
+      by λ b w. put 73 0 refl (put 72 1 refl (put 71 0 refl (put 70 1 refl (put 69 1 refl (put 67 (p .selectors .sw) refl (put 66 0 refl
+      (put 65 (p .selectors .ckpersel) refl (put 64 (p .buses .apb3 .pre) (le-leb _ 16 k) (put 63 (p .buses .apb2 .pre) (le-leb _ 16 j) (put 62 (p .buses .apb1 .pre) (le-leb _ 16 i)
+      (put 61 (p .buses .ahb .pre) (le-leb _ 512 h) w)))))))))))
 
 -- ---- the whole list, and the bank that it leaves
 abbrev BusesKeep : Plan → Type 0
-BusesKeep p = Keeps (clockEntries p) × Keeps (busEntries p)
+BusesKeep p = Keeps (clockEntries (p .waits) (p .selectors) (p .mcos)) × Keeps (busEntries (p .buses) (p .selectors))
 
 chosen-keep : (q : Request) (c : ChipState) → Holds BusesKeep (chosenPlan q c)
 unfolding chosenPlan planWith
@@ -235,13 +229,13 @@ chosen-keep q c =
     (λ m k. (clocks-keep (planWith q c l b m) (k .0) (k .1), buses-keep (planWith q c l b m) (h .0) (h .1) (h .2) (h .3))))))
 
 plan-keeps : (q : Request) (c : ChipState) (p : Plan) → LegalPlan q c p → BusesKeep p → Keeps (planEntries p)
-unfolding planEntries
+unfolding listWith
 plan-keeps q c p l h =
-    setup-keeps pll1 (c .odd1) (sourceOf q) (askedOf q 0) (pllIn p 0) (l .pll1)
-    then setup-keeps pll2 (c .odd2) (sourceOf q) (askedOf q 1) (pllIn p 1) (l .pll2)
-    then third-keeps pll3 (c .three) (c .odd3) (sourceOf q) (askedOf q 2) (pllIn p 2) (l .pll3)
-    then h .0 then hse-keeps p (p .hse) then source-keeps p (p .three)
-    then start-keeps pll1 (pllIn p 0) then start-keeps pll2 (pllIn p 1) then start-keeps pll3 (pllIn p 2) then h .1
+    (setup-keeps pll1 (oddAt c 0) (sourceOf q) (askedOf q 0) (pllIn p 0) (l .pll1)
+    then setup-keeps pll2 (oddAt c 1) (sourceOf q) (askedOf q 1) (pllIn p 1) (l .pll2)
+    then third-keeps pll3 (c .three) (oddAt c 2) (sourceOf q) (askedOf q 2) (pllIn p 2) (l .pll3))
+    then h .0 then hse-keeps p (p .clocks .hse) then source-keeps p (p .three)
+    then (start-keeps pll1 (pllIn p 0) then start-keeps pll2 (pllIn p 1) then start-keeps pll3 (pllIn p 2)) then h .1
 
 pub plan-within : (q : Request) (c : ChipState) → answerTo q c .answer ≡ Accepted → Within (applyAll (entriesOf (answerTo q c)) resetBank)
 unfolding entriesOf answerTo

@@ -1,4 +1,3 @@
 pub mod Join
 pub mod Tails
-pub mod Whole
 pub mod Stores

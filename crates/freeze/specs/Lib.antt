@@ -1,1 +1,2 @@
+pub mod Plls
 pub mod Freeze

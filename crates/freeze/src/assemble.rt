@@ -1,32 +1,32 @@
-// A plan from what was chosen, and the blank plan beside a refusal.
+// A plan from what was chosen, part by part, and the blank plan beside a refusal.
 ghost use mathlib.Core.Path.{_≡_};
 ghost use Rattle.rules.specs.Document01.Request as Step;
-ghost use Rattle.rules.specs.Document01.Plan.{planWith};
+ghost use Rattle.rules.specs.Document01.Plan as Rules;
 ghost use Rattle.freeze.specs.Freeze as Spec;
 use crate::codes;
-use core_clocks::Buses;
-use core_clocks::Mcos;
 use types::Answer;
+use types::Bus;
+use types::Buses;
 use types::ChipState;
+use types::Clocks;
 use types::Hertz;
+use types::Mco;
+use types::Mcos;
 use types::Plan;
 use types::Planned;
 use types::Pll;
 use types::PllPlan;
 use types::Refusal;
 use types::Request;
+use types::Selectors;
+use types::Waits;
 
-pub fn refused(n: Refusal) -> Planned
-    ensures { λ r. ⌜ r ≡ Spec.answered (Spec.refusedBy n) ⌝ }
+fn no_clocks() -> Clocks
+    ensures { λ r. ⌜ r ≡ Rules.noClocks ⌝ }
 {
-    let idle = PllPlan { pll: Pll::Idle };
     let none = Hertz::Unset;
-    let plan = Plan {
+    Clocks {
         sys: 0,
-        hclk: 0,
-        pclk1: 0,
-        pclk2: 0,
-        pclk3: 0,
         timx: 0,
         timy: 0,
         per: 0,
@@ -37,24 +37,45 @@ pub fn refused(n: Refusal) -> Planned
         hse: none,
         lse: none,
         audio: none,
-        mco1: none,
-        mco2: none,
+    }
+}
+
+pub fn refused(n: Refusal) -> Planned
+    ensures { λ r. ⌜ r ≡ Spec.refusedBy n ⌝ }
+{
+    let bus = Bus { pre: 0, clock: 0 };
+    let mco = Mco {
+        pre: 0,
+        clock: Hertz::Unset,
+    };
+    let idle = PllPlan { pll: Pll::Idle };
+    let clocks = no_clocks();
+    let plan = Plan {
+        clocks,
+        buses: Buses {
+            ahb: bus,
+            apb1: bus,
+            apb2: bus,
+            apb3: bus,
+        },
+        mcos: Mcos {
+            mco1: mco,
+            mco2: mco,
+        },
+        waits: Waits {
+            latency: 0,
+            delay: 0,
+        },
+        selectors: Selectors {
+            src: 0,
+            sw: 0,
+            ckpersel: 0,
+            mco1sel: 0,
+            mco2sel: 0,
+        },
+        bypass: false,
         three: false,
         plls: [idle; 3],
-        src: 0,
-        sw: 0,
-        bypass: false,
-        hpre: 0,
-        ppre1: 0,
-        ppre2: 0,
-        ppre3: 0,
-        ckpersel: 0,
-        mco1sel: 0,
-        mco1pre: 0,
-        mco2sel: 0,
-        mco2pre: 0,
-        latency: 0,
-        delay: 0,
     };
     Planned {
         answer: Answer::Refused(n),
@@ -62,38 +83,18 @@ pub fn refused(n: Refusal) -> Planned
     }
 }
 
-pub fn accepted(
-    q: Request,
-    c: ChipState,
-    needs: bool,
-    sys: u32,
-    pll1: Pll,
-    pll2: Pll,
-    pll3: Pll,
-    b: Buses,
-    m: Mcos,
-) -> Planned
-    requires { ⌜ (needs ≡ Step.needsPll1 q) × (sys ≡ Spec.systemFrom q (Spec.plls pll1 pll2 pll3)) ⌝ }
-    ensures { λ r. ⌜ r ≡ Spec.accepted (planWith q c (Spec.plls pll1 pll2 pll3) (Spec.buses b) (Spec.mcos m)) ⌝ }
+fn clocks(q: Request, system: u32, per: u32, ahb: Bus, apb1: Bus, apb2: Bus) -> Clocks
+    ensures { λ r. ⌜ r ≡ Spec.clocksBy q system per ahb apb1 apb2 ⌝ }
 {
     let hse = q.hse;
     let lse = q.lse;
     let audio = q.audio;
-    let out1 = m.mco1;
-    let out2 = m.mco2;
-    let mco1 = out1.clock;
-    let mco2 = out2.clock;
-    let hclk = b.ahb.clock;
-    let k = codes::chosen(q, c, needs, hclk, b.apb1.pre, b.apb2.pre);
-    let plan = Plan {
-        sys,
-        hclk,
-        pclk1: b.apb1.clock,
-        pclk2: b.apb2.clock,
-        pclk3: b.apb3.clock,
-        timx: k.timx,
-        timy: k.timy,
-        per: k.per,
+    let hclk = ahb.clock;
+    Clocks {
+        sys: system,
+        timx: prescaler::timer(hclk, apb1.pre),
+        timy: prescaler::timer(hclk, apb2.pre),
+        per,
         hsi: 32_000_000,
         csi: 4_000_000,
         hsi48: 48_000_000,
@@ -101,28 +102,40 @@ pub fn accepted(
         hse,
         lse,
         audio,
-        mco1,
-        mco2,
-        three: c.three,
-        plls: [
-            PllPlan { pll: pll1 },
-            PllPlan { pll: pll2 },
-            PllPlan { pll: pll3 },
-        ],
-        src: k.src,
-        sw: k.sw,
+    }
+}
+
+pub fn accepted(
+    q: Request,
+    c: ChipState,
+    needs: bool,
+    system: u32,
+    plls: [PllPlan; 3],
+    buses: Buses,
+    mcos: Mcos,
+) -> Planned
+    requires { ⌜ (needs ≡ Step.needsPll1 q) × (system ≡ Rules.systemFrom q plls) ⌝ }
+    ensures { λ r. ⌜ r ≡ Spec.accepted (Rules.planWith q c plls buses mcos) ⌝ }
+{
+    let hse = q.hse;
+    let requested = q.peripheral;
+    let scale = c.scale;
+    let ahb = buses.ahb;
+    let apb1 = buses.apb1;
+    let apb2 = buses.apb2;
+    let per = core_clocks::peripheral(requested, hse);
+    let clocks = clocks(q, system, per.clock, ahb, apb1, apb2);
+    let waits = flash::flash_setup(ahb.clock, scale);
+    let selectors = codes::selectors(q, needs, per.sel);
+    let plan = Plan {
+        clocks,
+        buses,
+        mcos,
+        waits,
+        selectors,
         bypass: q.bypass,
-        hpre: b.ahb.pre,
-        ppre1: b.apb1.pre,
-        ppre2: b.apb2.pre,
-        ppre3: b.apb3.pre,
-        ckpersel: k.ckpersel,
-        mco1sel: k.mco1sel,
-        mco1pre: out1.pre,
-        mco2sel: k.mco2sel,
-        mco2pre: out2.pre,
-        latency: k.latency,
-        delay: k.delay,
+        three: c.three,
+        plls,
     };
     Planned {
         answer: Answer::Accepted,

@@ -3,11 +3,11 @@ ghost use mathlib.Core.Path.{_≡_};
 ghost use Rattle.rules.specs.Document01.Mco as Mco;
 ghost use Rattle.rules.specs.Document01.Plan as Plan;
 ghost use Rattle.freeze.specs.Freeze as Spec;
-use types::ChipState;
 use types::Hertz;
 use types::Mco1Source;
 use types::Mco2Source;
 use types::Request;
+use types::Selectors;
 
 fn mco1_code(source: Mco1Source) -> u32
     ensures { λ r. ⌜ r ≡ Mco.mco1Code source ⌝ }
@@ -55,40 +55,17 @@ fn sw_of(needs: bool, hse: Hertz) -> u32
     }
 }
 
-// What is chosen beside the buses, the clock outputs and the PLLs.
-pub struct Numbers {
-    pub timx: u32,
-    pub timy: u32,
-    pub per: u32,
-    pub ckpersel: u32,
-    pub src: u32,
-    pub sw: u32,
-    pub mco1sel: u32,
-    pub mco2sel: u32,
-    pub latency: u32,
-    pub delay: u32,
-}
-
-pub fn chosen(q: Request, c: ChipState, needs: bool, hclk: u32, ppre1: u32, ppre2: u32) -> Numbers
-    ensures { λ r. ⌜ r ≡ Spec.chosen q c needs hclk ppre1 ppre2 ⌝ }
+pub fn selectors(q: Request, needs: bool, ckpersel: u32) -> Selectors
+    ensures { λ r. ⌜ r ≡ Spec.selectorsBy q needs ckpersel ⌝ }
 {
     let hse = q.hse;
-    let peripheral = q.peripheral;
     let source1 = q.mco1source;
     let source2 = q.mco2source;
-    let scale = c.scale;
-    let per = core_clocks::peripheral(peripheral, hse);
-    let waits = flash::flash_setup(hclk, scale);
-    Numbers {
-        timx: prescaler::timer(hclk, ppre1),
-        timy: prescaler::timer(hclk, ppre2),
-        per: per.clock,
-        ckpersel: per.sel,
+    Selectors {
         src: src_of(hse),
         sw: sw_of(needs, hse),
+        ckpersel,
         mco1sel: mco1_code(source1),
         mco2sel: mco2_code(source2),
-        latency: waits.latency,
-        delay: waits.delay,
     }
 }

@@ -1,27 +1,27 @@
 // From a typed request and the chip's state to one complete plan or one refusal of 3 to 23. rcc.rs (freeze).
 ghost use mathlib.Core.Path.{_≡_};
 ghost use lib.Dec.{eqb};
+ghost use Rattle.rules.specs.Answers.{pllResult, busesResult, mcosResult};
 ghost use Rattle.rules.specs.Document01.Chip.{divisorOf};
-ghost use Rattle.rules.specs.Document01.Plan.{answerTo, answered};
+ghost use Rattle.rules.specs.Document01.Plan.{answerTyped, answerTo, answered, systemFrom};
 ghost use Rattle.rules.specs.Document01.Result as Result;
 ghost use Rattle.rules.specs.Document01.Request as Step;
-ghost use Rattle.pll.specs.Answer.{pllAnswer};
 ghost use Rattle.freeze.specs.Freeze as Spec;
-use config::Configured;
-use core_clocks::BusesAnswer;
-use core_clocks::McosAnswer;
-use pll::PllAnswer;
+ghost use Rattle.freeze.specs.Plls.{inOrder};
 use types::Answer;
+use types::BusesAnswer;
 use types::ChipState;
 use types::Hsidiv;
+use types::McosAnswer;
 use types::Planned;
-use types::Pll;
-use types::PllRequest;
+use types::PllAnswer;
+use types::PllPlan;
 use types::Refusal;
 use types::Request;
 
 mod assemble;
 mod codes;
+mod plls;
 
 // One refusal, with the blank plan beside it.
 pub fn refused(n: Refusal) -> Planned
@@ -30,45 +30,40 @@ pub fn refused(n: Refusal) -> Planned
     assemble::refused(n)
 }
 
-// A typed request: steps 1 to 3, then the rest.
+// A typed request. One for two PLLs with anything in its third part is refusal 1, as its bytes would be.
 pub fn answer_to(q: Request, c: ChipState) -> Planned
+    ensures { λ r. ⌜ r ≡ answerTyped q c ⌝ }
+{
+    let plls = q.plls;
+    let third = plls[2];
+    let blank = plls::is_no_part(third);
+    let fits = c.three | blank;
+    if !fits {
+        return assemble::refused(Refusal::OutsideCodes);
+    }
+    chosen(q, c)
+}
+
+// Steps 1 to 3, the PLLs, then what follows them.
+fn chosen(q: Request, c: ChipState) -> Planned
     ensures { λ r. ⌜ r ≡ answerTo q c ⌝ }
 {
     let s = config::configure(q);
     let answer = s.answer;
     match answer {
         Answer::Refused(n) => return assemble::refused(n),
-        Answer::Accepted => return with_plls(q, c, s),
+        Answer::Accepted => {
+            let asked = s.plls;
+            let first = plls::plan_at(c, s.source, asked[0], 0);
+            let second = plls::plan_at(c, s.source, asked[1], 1);
+            let third = plls::plan_at(c, s.source, asked[2], 2);
+            return after_plls(q, c, s.needs, s.source, first, second, third);
+        }
     }
-}
-
-// The PLLs, each on its own, then what follows them.
-fn with_plls(q: Request, c: ChipState, s: Configured) -> Planned
-    requires { ⌜ (s .needs ≡ Step.needsPll1 q) × (s .source ≡ Step.sourceOf q) ⌝ }
-    ensures { λ r. ⌜ r ≡ Spec.answered (Spec.configuredPlan q c s) ⌝ }
-{
-    let pll1 = s.pll1;
-    let pll2 = s.pll2;
-    let plls = q.plls;
-    let pll3 = plls[2];
-    let first = pll::plan_pll(c.odd1, s.source, pll1);
-    let second = pll::plan_pll(c.odd2, s.source, pll2);
-    let third = third(c.three, c.odd3, s.source, pll3);
-    in_order(q, c, s.needs, s.source, first, second, third)
-}
-
-// PLL3, on a chip that has it.
-fn third(there: bool, odd: bool, source: u32, request: PllRequest) -> PllAnswer
-    ensures { λ r. ⌜ r ≡ pllAnswer (Spec.one there odd source request) ⌝ }
-{
-    if there {
-        return pll::plan_pll(odd, source, request);
-    }
-    PllAnswer::Planned(Pll::Idle)
 }
 
 // The first refusal of the PLLs, or what follows all three.
-fn in_order(
+fn after_plls(
     q: Request,
     c: ChipState,
     needs: bool,
@@ -78,7 +73,7 @@ fn in_order(
     third: PllAnswer,
 ) -> Planned
     requires { ⌜ (needs ≡ Step.needsPll1 q) × (source ≡ Step.sourceOf q) ⌝ }
-    ensures { λ r. ⌜ r ≡ Spec.answered (Spec.withPlls q c (Spec.all (Spec.pllOf first) (Spec.pllOf second) (Spec.pllOf third))) ⌝ }
+    ensures { λ r. ⌜ r ≡ Spec.answered (Spec.afterPlls q c (inOrder (pllResult first) (pllResult second) (pllResult third))) ⌝ }
 {
     match first {
         PllAnswer::Refused(n) => return assemble::refused(n),
@@ -86,7 +81,12 @@ fn in_order(
             PllAnswer::Refused(n) => return assemble::refused(n),
             PllAnswer::Planned(pll2) => match third {
                 PllAnswer::Refused(n) => return assemble::refused(n),
-                PllAnswer::Planned(pll3) => return rest(q, c, needs, source, pll1, pll2, pll3),
+                PllAnswer::Planned(pll3) => {
+                    let one = PllPlan { pll: pll1 };
+                    let two = PllPlan { pll: pll2 };
+                    let three = PllPlan { pll: pll3 };
+                    return rest(q, c, needs, source, [one, two, three]);
+                }
             },
         },
     }
@@ -104,17 +104,9 @@ fn is_div2(hsidiv: Hsidiv) -> bool
 }
 
 // Refusals 16 and 17, then the clocks behind the PLLs.
-fn rest(
-    q: Request,
-    c: ChipState,
-    needs: bool,
-    source: u32,
-    pll1: Pll,
-    pll2: Pll,
-    pll3: Pll,
-) -> Planned
+fn rest(q: Request, c: ChipState, needs: bool, source: u32, plls: [PllPlan; 3]) -> Planned
     requires { ⌜ (needs ≡ Step.needsPll1 q) × (source ≡ Step.sourceOf q) ⌝ }
-    ensures { λ r. ⌜ r ≡ Spec.answered (Spec.rest q c (Spec.plls pll1 pll2 pll3)) ⌝ }
+    ensures { λ r. ⌜ r ≡ Spec.answered (Spec.rest q c plls) ⌝ }
 {
     if !c.hsion {
         return assemble::refused(Refusal::HsiOff);
@@ -124,10 +116,10 @@ fn rest(
     if !by_2 {
         return assemble::refused(Refusal::HsidivNot2);
     }
-    let system = core_clocks::system_from(needs, source, pll1);
+    let system = core_clocks::system_from(needs, source, plls);
     let buses = core_clocks::bus_clocks(q, system);
-    let mcos = core_clocks::mco_clocks(q, pll1, pll2, system);
-    finish(q, c, needs, system, pll1, pll2, pll3, buses, mcos)
+    let mcos = core_clocks::mco_clocks(q, plls, system);
+    finish(q, c, needs, system, plls, buses, mcos)
 }
 
 // The first refusal of the buses and the clock outputs, or the plan.
@@ -136,21 +128,19 @@ fn finish(
     c: ChipState,
     needs: bool,
     system: u32,
-    pll1: Pll,
-    pll2: Pll,
-    pll3: Pll,
+    plls: [PllPlan; 3],
     buses: BusesAnswer,
     mcos: McosAnswer,
 ) -> Planned
-    requires { ⌜ (needs ≡ Step.needsPll1 q) × (system ≡ Spec.systemFrom q (Spec.plls pll1 pll2 pll3)) ⌝ }
-    ensures { λ r. ⌜ r ≡ Spec.answered (Spec.finish q c (Spec.plls pll1 pll2 pll3) (Spec.busesOf buses) (Spec.mcosOf mcos)) ⌝ }
+    requires { ⌜ (needs ≡ Step.needsPll1 q) × (system ≡ systemFrom q plls) ⌝ }
+    ensures { λ r. ⌜ r ≡ Spec.answered (Spec.finish q c plls (busesResult buses) (mcosResult mcos)) ⌝ }
 {
     match buses {
         BusesAnswer::Refused(n) => return assemble::refused(n),
         BusesAnswer::Divided(b) => match mcos {
             McosAnswer::Refused(n) => return assemble::refused(n),
-            McosAnswer::Prescalers(m) => {
-                return assemble::accepted(q, c, needs, system, pll1, pll2, pll3, b, m);
+            McosAnswer::Prescaled(m) => {
+                return assemble::accepted(q, c, needs, system, plls, b, m);
             }
         },
     }

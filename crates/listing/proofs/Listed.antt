@@ -5,7 +5,7 @@ use Prim.Native.Nat.{ℕ, zero, suc, _+_, _*_, _≤_, _<_}
 use native.Mathlib.Omega.{arith}
 use lib.ListN.{length, drop, set, length-set}
 use Rattle.types.specs.declared.Entry.{Entry}
-use Rattle.rules.specs.Document01.Words.{storedAt, listedFrom, listed}
+use Rattle.rules.specs.Words.{storedAt, listedFrom, listed}
 use Rattle.rules.proofs.Document01.Run.{stored-length}
 use Rattle.entries.specs.declared.EntryAt.{EntryAt}
 use Rattle.entries.specs.declared.EntryAt.the-variants.{Is, Past}

@@ -2,7 +2,7 @@
 use mathlib.Core.List.{List}
 use Prim.Native.Nat.{ℕ}
 use lib.ListN.{replicate}
-use Rattle.rules.specs.Document01.Words.{entryWords}
+use Rattle.rules.specs.Words.{entryWords}
 use Rattle.entries.specs.declared.EntryAt.{EntryAt}
 use Rattle.entries.specs.declared.EntryAt.the-variants.{Is, Past}
 

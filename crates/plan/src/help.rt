@@ -10,7 +10,7 @@ planner reads.
 About: `odd1`, `odd2`, `odd3`, `scale`, `hsion`, `hsidiv`; the request's bytes
 Who can mend it: the firmware engineer, by the call
 
-Smallest request that gives it:
+A request that gives it:
 
     scale=4
 
@@ -38,7 +38,7 @@ for each field. The bank that was passed has another length.
 About: `bank_length` of `clock_bank`; no word of a request
 Who can mend it: the firmware engineer, by the call
 
-Smallest request that gives it: none; only a caller of the library can do it.
+A request that gives it: none; only a caller of the library can do it.
 In C, with any request and chip that are in their form (else 1):
 
     uint32_t bank[81] = {0};
@@ -62,7 +62,7 @@ limit of each of them.
 About: `sys`, `ahb`, `apb1`, `apb2`, `apb3`
 Who can mend it: the installer, by the request
 
-Smallest request that gives it:
+A request that gives it:
 
     sys=250000001
 
@@ -83,7 +83,7 @@ does not say that there is a crystal.
 About: `hse`, beside `mco1=hse` or `mco2=hse`
 Who can mend it: the installer, by the request
 
-Smallest request that gives it:
+A request that gives it:
 
     mco1=hse
 
@@ -107,7 +107,7 @@ About: `sys` and `pll1.p`; `mco2=sysclk:HERTZ` and `mco2=pll1p:HERTZ` count as
 these where they are not given
 Who can mend it: the installer, by the request
 
-Smallest request that gives it (a difference of 1 Hz is enough):
+A request that gives it (a difference of 1 Hz is enough):
 
     sys=100M pll1.p=99999999
 
@@ -131,7 +131,7 @@ About: `hse`
 Who can mend it: the board, by its crystal; the installer, where `hse` does
 not say what the board has
 
-Smallest request that gives it:
+A request that gives it:
 
     hse=0
 
@@ -154,7 +154,7 @@ About: `pll1.p` to `pll3.r`; also `sys=0`, which asks PLL1 P for it, and an
 MCO of 0 Hz from sysclk or from a PLL output that is not given
 Who can mend it: the installer, by the request
 
-Smallest request that gives it:
+A request that gives it:
 
     pll2.p=0
 
@@ -177,7 +177,7 @@ requested is below the largest / 128, rounded down.
 About: the least and the largest of P, Q and R of one PLL
 Who can mend it: the installer, by the request
 
-Smallest request that gives it:
+A request that gives it:
 
     pll2.p=150M pll2.q=1171874
 
@@ -200,7 +200,7 @@ About: the largest of P, Q and R of one PLL; also `mco1` and `mco2`, where
 their hertz ask a PLL for it
 Who can mend it: the installer, by the request
 
-Smallest request that gives it:
+A request that gives it:
 
     pll1.p=280000000
 
@@ -222,7 +222,7 @@ for an output of 420000000 Hz or more).
 About: the least of P, Q and R of one PLL; `sys`, where PLL1 P is that output
 Who can mend it: the installer, by the request
 
-Smallest request that gives it (so do the numbers below it, down to 1):
+A request that gives it (so do the numbers below it, down to 1):
 
     pll2.p=1634241
 
@@ -247,7 +247,7 @@ About: `hse`, where a PLL has an output; `sys` unlike `hse` needs PLL1
 Who can mend it: the board, by its crystal; the installer, where `hse` does
 not say what the board has
 
-Smallest request that gives it:
+A request that gives it:
 
     hse=999999 pll2.p=12.288M
 
@@ -269,7 +269,7 @@ N, by which a PLL multiplies its reference, would be outside 4 to 512.
 About: N of a PLL
 Who can mend it: nobody has to; no request gives it
 
-Smallest request that gives it: none. It is proved that N is 75 to 420 in the
+A request that gives it: none. It is proved that N is 75 to 420 in the
 medium VCO range and 8 to 280 in the wide one, for every request and chip:
 
     crates/rules/proofs/Document01/Multiplier.antt     (pll-n)
@@ -295,7 +295,7 @@ About: `pll1=fractional`, `pll2=fractional` or `pll3=fractional`, and the
 first of P, Q and R that is requested of that PLL
 Who can mend it: the installer, by the request
 
-Smallest request that gives it:
+A request that gives it:
 
     pll2=fractional pll2.p=1640626
 
@@ -318,7 +318,7 @@ About: `pll1.p`, or `sys`, where it is PLL1 P, with `odd1=0`; also `pll2.p`
 with `odd2=0` and `pll3.p` with `odd3=0`
 Who can mend it: the installer, by the request
 
-Smallest request that gives it (so do the numbers below it, down to 817121):
+A request that gives it (so do the numbers below it, down to 817121):
 
     sys=3230769
 
@@ -341,8 +341,7 @@ About: `pll1.p`, or `sys`, where it is PLL1 P, beside `pll1.q` or `pll1.r`,
 with `odd1=0`; likewise PLL2 with `odd2=0` and PLL3 with `odd3=0`
 Who can mend it: the installer, by the request
 
-Smallest request that gives it (fewest words; here the VCO runs at 400000000
-Hz, and the divider is 5):
+A request that gives it (the VCO runs at 400000000 Hz, and the divider is 5):
 
     pll1.p=80M pll1.q=200M
 
@@ -365,7 +364,7 @@ is stated, and HSION was read as 0.
 About: the chip's number HSION, `hsion`
 Who can mend it: the firmware engineer, by the chip's state
 
-Smallest request that gives it:
+A request that gives it:
 
     hsion=0
 
@@ -386,7 +385,7 @@ also where a crystal is stated, and HSIDIV was read as another divisor than 2.
 About: the chip's number HSIDIV, `hsidiv`, which is the divisor
 Who can mend it: the firmware engineer, by the chip's state
 
-Smallest request that gives it (so do 4 and 8; any other number gives 1):
+A request that gives it (so do 4 and 8; any other number gives 1):
 
     hsidiv=1
 
@@ -407,7 +406,7 @@ is left out of the request.
 About: `ahb`, `apb1`, `apb2`, `apb3`
 Who can mend it: the installer, by the request
 
-Smallest request that gives it:
+A request that gives it:
 
     ahb=0
 
@@ -430,7 +429,7 @@ About: `hse` and `ahb`
 Who can mend it: the board, by its crystal; the installer, where `hse` does
 not say what the board has
 
-Smallest request that gives it (3 Hz divided by 4):
+A request that gives it (3 Hz divided by 4):
 
     hse=3 ahb=1
 
@@ -452,7 +451,7 @@ About: `mco1=lse`, with hertz or without; stating `lse` does not help
 Who can mend it: the firmware engineer, by the call; at the command line,
 whoever types `mco1`
 
-Smallest request that gives it:
+A request that gives it:
 
     mco1=lse
 
@@ -475,7 +474,7 @@ About: `mco1=pll1q`, `mco2=pll1p`, `mco2=pll2p` without hertz
 Who can mend it: the firmware engineer, by the call; at the command line,
 whoever types `mco1` or `mco2`
 
-Smallest request that gives it:
+A request that gives it:
 
     mco1=pll1q
 
@@ -497,7 +496,7 @@ the request, or has no hertz.
 About: the hertz of `mco1` or `mco2`
 Who can mend it: the installer, by the request
 
-Smallest request that gives it:
+A request that gives it:
 
     mco1=hsi:0
 
@@ -519,7 +518,7 @@ divided by the hertz requested, rounded up, is above 15.
 About: the hertz of `mco1` or `mco2`
 Who can mend it: the installer, by the request
 
-Smallest request that gives it:
+A request that gives it:
 
     mco2=lsi:2133
 
@@ -542,7 +541,7 @@ oscillator CSI is ready, and CSIRDY was read as 0. This ends the walk.
 About: the chip's flag CSIRDY, as read at the check
 Who can mend it: the firmware engineer, by the chip's state
 
-Smallest request that gives it: none by itself. Planning never answers 24;
+A request that gives it: none by itself. Planning never answers 24;
 only a walk (`clock_walk`) shows it. The walk of every accepted request does,
 where CSIRDY reads 1 at its wait and 0 at its check, so also that of a request
 for nothing.

@@ -25,7 +25,7 @@ fn clocks(report: &[u32], bank: &[u32], hse: Hertz) {
 
 fn pll(n: u32, x: Pll, src: u32) {
     let mut words: [u32; 18] = [0; 18];
-    pll_words::store(x, &mut words);
+    pll_words::store_pll(x, &mut words);
     let numbers = lines::pll_line(n, src, &words);
     if numbers[2] != 0 {
         print::clocks(
@@ -37,9 +37,11 @@ fn pll(n: u32, x: Pll, src: u32) {
 
 fn plan(x: Planned, bank: [u32; 82]) {
     let p = x.plan;
-    let hse = p.hse;
+    let reported = p.clocks;
+    let hse = reported.hse;
+    let source = p.selectors.src;
     let mut words: [u32; 55] = [0; 55];
-    report::store(p, &mut words);
+    report::store_report(p, &mut words);
     clocks(&words, &bank, hse);
     let plls = p.plls;
     let one = plls[0];
@@ -48,14 +50,14 @@ fn plan(x: Planned, bank: [u32; 82]) {
     let pll1 = one.pll;
     let pll2 = two.pll;
     let pll3 = three.pll;
-    pll(1, pll1, p.src);
-    pll(2, pll2, p.src);
-    pll(3, pll3, p.src);
+    pll(1, pll1, source);
+    pll(2, pll2, source);
+    pll(3, pll3, source);
     print::clocks(
         b"flash       latency {0}, delay {1}\nentries     {2}\n",
         &[
-            wide(p.latency),
-            wide(p.delay),
+            wide(p.waits.latency),
+            wide(p.waits.delay),
             entries::entry_count(x) as u64,
         ],
     );

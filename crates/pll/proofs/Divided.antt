@@ -13,7 +13,7 @@ use Rattle.types.specs.declared.Pll.{Pll}
 use Rattle.types.specs.declared.FoundM.{FoundM}
 use Rattle.types.specs.declared.FoundM.the-variants.{Nothing, M}
 use Rattle.types.specs.declared.Refusal.the-variants.{TargetOutside, NoM}
-use Rattle.rules.specs.Document01.Result.{Result, _>>=_, _>>_}
+use Rattle.rules.specs.Document01.Result.{Result, _>>=_, _>>_, refused}
 use Rattle.rules.specs.Document01.Hertz.{isSet, notZero, hertzOr, orElse}
 use Rattle.rules.specs.Document01.ChoiceOfM.{chosenM, Admissible}
 use Rattle.rules.specs.Document01.Target.{targetOf}
@@ -24,8 +24,7 @@ use Rattle.rules.proofs.Document01.ChoiceOfM.{chosen-some}
 use Rattle.rules.proofs.Document01.Target.{target-le}
 use Rattle.rules.proofs.Document01.Span.{Pos, pos-is, Inside, Span, span}
 use Rattle.rules.proofs.Legal.OnePll.{Good, range-good, Divides, SomeDivider, divider-p, divider-q}
-use Rattle.pll.specs.declared.PllAnswer.the-variants.{Refused}
-use Rattle.pll.specs.Answer.{pllAnswer, afterSpan}
+use Rattle.pll.specs.Answer.{afterSpan}
 use Rattle.pll.specs.Spans.{Spanned}
 use Rattle.pll.specs.Settle.{HasDivider, Settles, settledFor}
 
@@ -90,7 +89,7 @@ module _ (odd : Bool) (source : ℕ) (a : PllRequest) (low most : ℕ) (sp : Spa
   same = ap (λ (x : ℕ). after x (largest (countedOutputs odd a))) (sym (sp .low-is)) ∙ ap (λ (x : ℕ). after low x) (sym (sp .most-is))
 
   -- ---- refusals 10 and 11
-  pub outside : target < g .start → Refused TargetOutside ≡ pllAnswer (afterSpan odd source a)
+  pub outside : target < g .start → refused TargetOutside ≡ afterSpan odd source a
   unfolding dividedBy
   outside h = rw (same, lt-leb (g .start) target h)
 
@@ -100,7 +99,7 @@ module _ (odd : Bool) (source : ℕ) (a : PllRequest) (low most : ℕ) (sp : Spa
   within : g .start ≤ target → leb (g .start) target && leb target (g .end) ≡ true
   within h = rw (le-leb (g .start) target h, le-leb target (g .end) (target-le low most (g .end)))
 
-  pub no-m : g .start ≤ target → chosen ≡ Nothing → Refused NoM ≡ pllAnswer (afterSpan odd source a)
+  pub no-m : g .start ≤ target → chosen ≡ Nothing → refused NoM ≡ afterSpan odd source a
   unfolding dividedBy
   no-m h e = rw (same, within h, e)
 
@@ -128,6 +127,6 @@ module _ (odd : Bool) (source : ℕ) (a : PllRequest) (low most : ℕ) (sp : Spa
           hasR = with-both target (a .r) posR (divider-q low most g (b .0) (b .1) good (sp .near) t1 (a .r) inR posR);
         }
 
-    pub rest : pllAnswer (running (settledFor odd a (g .vcosel) target m (source / m))) ≡ pllAnswer (afterSpan odd source a)
+    pub rest : running (settledFor odd a (g .vcosel) target m (source / m)) ≡ afterSpan odd source a
     unfolding dividedBy settledFor settled
     rest = rw (same, within from, is)

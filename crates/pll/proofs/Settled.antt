@@ -21,11 +21,9 @@ use Rattle.ieee754.specs.Steps.{float, fracnOf, vcoOf}
 use Rattle.rules.specs.Document01.Hertz.{hertzOr, orElse}
 use Rattle.rules.specs.Document01.Result.{Result, refused, ok, _>>=_, _>>_}
 use Rattle.rules.specs.Document01.OnePll.{firstOf, taken, fractionOf, vcoBy, dividerP, allowedP, settingsOf, settled, running}
-use Rattle.pll.specs.declared.PllAnswer.the-variants.{Planned, Refused}
 use Rattle.pll.specs.declared.settle.Chosen.{Chosen}
 use Rattle.pll.specs.declared.settle.Multiplied.{Multiplied}
 use Rattle.pll.specs.declared.settle.Multiplied.the-variants as Multiplied
-use Rattle.pll.specs.Answer.{pllAnswer}
 use Rattle.pll.specs.Settle.{multiplied, settledFor, placed, placedSettings}
 
 -- ---- the first requested of P, Q, R
@@ -44,20 +42,20 @@ module _ (r n d o : ℕ) where
 
 -- ---- refusals 14 and 15
 module _ (odd : Bool) (a : PllRequest) (c : Chosen) (f : Fraction) (d : ℕ) (is : d ≡ dividerP (c .target) (a .p)) where
-  pub above-128 : 128 < d → Refused PDividerAbove128 ≡ pllAnswer (running (placed odd a c f))
+  pub above-128 : 128 < d → refused PDividerAbove128 ≡ running (placed odd a c f)
   unfolding placed
   above-128 h = rw (← is, lt-leb d 128 h)
 
-  pub odd-one : odd ≡ false → d ≤ 128 → d % 2 ≡ 1 → Refused PDividerOdd ≡ pllAnswer (running (placed odd a c f))
+  pub odd-one : odd ≡ false → d ≤ 128 → d % 2 ≡ 1 → refused PDividerOdd ≡ running (placed odd a c f)
   unfolding placed
   odd-one o h e = rw (← is, le-leb d 128 h, o, ne-eqb (d % 2) 0 (λ z. omega arith))
 
-  pub allowed : (odd ≡ true) ⊎ (d % 2 ≡ 1 → ⊥) → d ≤ 128 → Planned (Runs (placedSettings a c f)) ≡ pllAnswer (running (placed odd a c f))
+  pub allowed : (odd ≡ true) ⊎ (d % 2 ≡ 1 → ⊥) → d ≤ 128 → ok (Runs (placedSettings a c f)) ≡ running (placed odd a c f)
   unfolding placed
   allowed (inl o) h = rw (← is, le-leb d 128 h, o)
   allowed (inr o) h = even odd
     where
-      even : (t : Bool) → Planned (Runs (placedSettings a c f)) ≡ pllAnswer (running (allowedP t (dividerP (c .target) (a .p)) >> ok (placedSettings a c f)))
+      even : (t : Bool) → ok (Runs (placedSettings a c f)) ≡ running (allowedP t (dividerP (c .target) (a .p)) >> ok (placedSettings a c f))
       even true = rw (← is, le-leb d 128 h)
       even false = rw (← is, le-leb d 128 h, eq-eqb (d % 2) 0 (omega arith))
 
@@ -74,11 +72,11 @@ module _ (odd : Bool) (a : PllRequest) (vcosel target m ref n : ℕ) (is : n ≡
   abbrev chosen : ℕ → Chosen
   chosen v = record { vcosel = vcosel; target = target; m = m; reference = ref; n = n; vco = v }
 
-  pub n-low : n < 4 → Refused NOutside ≡ pllAnswer (running (settledFor odd a vcosel target m ref))
+  pub n-low : n < 4 → refused NOutside ≡ running (settledFor odd a vcosel target m ref)
   unfolding settledFor settled
   n-low h = rw (← is, lt-leb 4 n h)
 
-  pub n-high : 4 ≤ n → 512 < n → Refused NOutside ≡ pllAnswer (running (settledFor odd a vcosel target m ref))
+  pub n-high : 4 ≤ n → 512 < n → refused NOutside ≡ running (settledFor odd a vcosel target m ref)
   unfolding settledFor settled
   n-high l h = rw (← is, le-leb 4 n l, lt-leb n 512 h)
 
@@ -87,18 +85,18 @@ module _ (odd : Bool) (a : PllRequest) (vcosel target m ref n : ℕ) (is : n ≡
     abbrev fraction : Result Fraction
     fraction = fractionOf (a .strategy) ref n (target / firstOf a) (firstOf a)
 
-    pub fracn-out : multiplied ref n fraction ≡ Multiplied.OutOfRange → Refused FracnOutside ≡ pllAnswer (running (settledFor odd a vcosel target m ref))
+    pub fracn-out : multiplied ref n fraction ≡ Multiplied.OutOfRange → refused FracnOutside ≡ running (settledFor odd a vcosel target m ref)
     unfolding settledFor settled
     fracn-out e = rw (← is, le-leb 4 n low, le-leb n 512 high) (go fraction refl e)
       where
-        go : (x : Result Fraction) → fraction ≡ x → multiplied ref n x ≡ Multiplied.OutOfRange → Refused FracnOutside ≡ pllAnswer (running (x >>= λ f. allowedP odd (dividerP target (a .p)) >> ok (settingsOf a (record { vcosel = vcosel; start = 0; end = 0; low = 0; high = 0 }) target m ref n f)))
+        go : (x : Result Fraction) → fraction ≡ x → multiplied ref n x ≡ Multiplied.OutOfRange → refused FracnOutside ≡ running (x >>= λ f. allowedP odd (dividerP target (a .p)) >> ok (settingsOf a (record { vcosel = vcosel; start = 0; end = 0; low = 0; high = 0 }) target m ref n f))
         go (refused x) w e = rw (fraction-13 (a .strategy) ref n (target / firstOf a) (firstOf a) x w)
         go (ok f) w e = absurd (let z : _≡_ {A = ℕ} 0 1 = cc in omega arith)
 
-    pub fracn-in : (f : Fraction) (v : ℕ) → multiplied ref n fraction ≡ Multiplied.By f v → pllAnswer (running (placed odd a (chosen v) f)) ≡ pllAnswer (running (settledFor odd a vcosel target m ref))
+    pub fracn-in : (f : Fraction) (v : ℕ) → multiplied ref n fraction ≡ Multiplied.By f v → running (placed odd a (chosen v) f) ≡ running (settledFor odd a vcosel target m ref)
     unfolding settledFor settled placed
     fracn-in f v e = rw (← is, le-leb 4 n low, le-leb n 512 high) (go fraction e)
       where
-        go : (x : Result Fraction) → multiplied ref n x ≡ Multiplied.By f v → pllAnswer (running (allowedP odd (dividerP target (a .p)) >> ok (placedSettings a (chosen v) f))) ≡ pllAnswer (running (x >>= λ g. allowedP odd (dividerP target (a .p)) >> ok (settingsOf a (record { vcosel = vcosel; start = 0; end = 0; low = 0; high = 0 }) target m ref n g)))
+        go : (x : Result Fraction) → multiplied ref n x ≡ Multiplied.By f v → running (allowedP odd (dividerP target (a .p)) >> ok (placedSettings a (chosen v) f)) ≡ running (x >>= λ g. allowedP odd (dividerP target (a .p)) >> ok (settingsOf a (record { vcosel = vcosel; start = 0; end = 0; low = 0; high = 0 }) target m ref n g))
         go (refused x) e = absurd (let z : _≡_ {A = ℕ} 0 1 = cc in omega arith)
         go (ok g) e = let p : g ≡ f = cc in let q : vcoBy g ref n ≡ v = cc in rw (p, ← q, p)

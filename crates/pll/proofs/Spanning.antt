@@ -16,9 +16,9 @@ use Rattle.laws.proofs.Tests.{and-left, and-right}
 use Rattle.rules.proofs.Document01.Span.{pos-is, outputs, Span, span}
 use Rattle.pll.specs.declared.outputs.Outputs.{Outputs}
 use Rattle.pll.specs.declared.outputs.Outputs.the-variants.{Nothing, Between}
-use Rattle.pll.specs.declared.PllAnswer.the-variants.{Planned, Refused}
-use Rattle.pll.specs.Answer.{pllAnswer, afterSpan}
+use Rattle.pll.specs.Answer.{afterSpan}
 use Rattle.pll.specs.Spans.{spanOf, spanOfP, withOutput, Spanned}
+use Rattle.rules.specs.Document01.Result.{refused, ok}
 
 -- ---- the least and the largest
 abbrev spanBy : (odd : Bool) (p q r : Hertz) → Bool → Outputs
@@ -59,11 +59,11 @@ zero-wanted Unset Unset Unset f = absurd (let z : _≡_ {A = ℕ} 0 1 = cc in om
 
 module _ (odd : Bool) (source : ℕ) (a : PllRequest) where
   -- ---- refusal 7, and idle
-  pub zero-output : noneZero a ≡ false → Refused OutputZero ≡ pllAnswer (pllOf odd source a)
+  pub zero-output : noneZero a ≡ false → refused OutputZero ≡ pllOf odd source a
   unfolding pllOf runs spanned
   zero-output f = rw (zero-wanted (a .p) (a .q) (a .r) f, f)
 
-  pub idle : spanOf odd a ≡ Nothing → Planned Idle ≡ pllAnswer (pllOf odd source a)
+  pub idle : spanOf odd a ≡ Nothing → ok Idle ≡ pllOf odd source a
   unfolding pllOf spanOf
   idle e = rw (none-of (wanted a) _ _ e)
 
@@ -90,7 +90,7 @@ module _ (odd : Bool) (source : ℕ) (a : PllRequest) where
     pub ordered : low ≤ most
     ordered = rw (low-is, high-is) (spans .order)
 
-    pub far : low < most / 128 → Refused OutputsTooFarApart ≡ pllAnswer (pllOf odd source a)
+    pub far : low < most / 128 → refused OutputsTooFarApart ≡ pllOf odd source a
     unfolding pllOf runs spanned
     far h = let l : leb (largest (countedOutputs odd a) / 128) (least (countedOutputs odd a)) ≡ false = lt-leb _ _ (rw (low-is, high-is) at h) in rw (w, z, l)
 
@@ -98,11 +98,11 @@ module _ (odd : Bool) (source : ℕ) (a : PllRequest) where
       l : leb (largest (countedOutputs odd a) / 128) (least (countedOutputs odd a)) ≡ true
       l = le-leb _ _ (rw (low-is, high-is) at near)
 
-      pub high : 560_000_000 ≤ most → Refused OutputTooHigh ≡ pllAnswer (pllOf odd source a)
+      pub high : 560_000_000 ≤ most → refused OutputTooHigh ≡ pllOf odd source a
       unfolding pllOf runs spanned
       high h = let k : ltb (largest (countedOutputs odd a)) 560_000_000 ≡ false = le-ltb _ _ (rw high-is at h) in rw (w, z, l, k)
 
-      pub goes-on : most < 560_000_000 → pllAnswer (afterSpan odd source a) ≡ pllAnswer (pllOf odd source a)
+      pub goes-on : most < 560_000_000 → afterSpan odd source a ≡ pllOf odd source a
       unfolding pllOf runs spanned afterSpan
       goes-on h = let k : ltb (largest (countedOutputs odd a)) 560_000_000 ≡ true = lt-ltb _ _ (rw high-is at h) in rw (w, z, l, k)
 

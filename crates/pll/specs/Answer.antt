@@ -5,21 +5,14 @@ use lib.Dec.{eqb}
 use Rattle.types.specs.declared.PllRequest.{PllRequest}
 use Rattle.types.specs.declared.Pll.{Pll}
 use Rattle.types.specs.declared.Refusal.the-variants.{SourceZero}
-use Rattle.rules.specs.Document01.Result.{Result, refused, ok, _>>=_, _>>_, require}
+use Rattle.rules.specs.Document01.Result.{Result, _>>=_, _>>_, require}
 use Rattle.rules.specs.Document01.OnePll.{rangeFor, targetFor, dividedBy, settled, running, pllOf}
-use Rattle.pll.specs.declared.PllAnswer.{PllAnswer}
-use Rattle.pll.specs.declared.PllAnswer.the-variants.{Planned, Refused}
 
 -- refusal 6, then 7 to 15
 unfoldable pub onePllOf : (odd : Bool) → (source : ℕ) → PllRequest → Result Pll
 onePllOf odd source a = do
   require (not (eqb source 0)) SourceZero
   pllOf odd source a
-
--- the answer of the call
-abbrev pub pllAnswer : Result Pll → PllAnswer
-pllAnswer (refused n) = Refused n
-pllAnswer (ok x) = Planned x
 
 -- ---- for the private functions
 -- what is left once refusals 7, 8 and 9 do not fit

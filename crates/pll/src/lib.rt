@@ -3,11 +3,13 @@ ghost use mathlib.Core.Path.{_≡_};
 ghost use mathlib.Core.Bool.{true};
 ghost use Prim.Native.Nat.{_≤_};
 ghost use Rattle.rules.specs.Document01.OnePll.{noneZero, pllOf};
-ghost use Rattle.pll.specs.Answer.{pllAnswer, onePllOf, afterSpan};
+ghost use Rattle.rules.specs.Answers.{pllResult};
+ghost use Rattle.pll.specs.Answer.{onePllOf, afterSpan};
 ghost use Rattle.pll.specs.Spans.{Spanned};
 use outputs::Outputs;
 use types::FoundM;
 use types::Pll;
+use types::PllAnswer;
 use types::PllRequest;
 use types::Refusal;
 
@@ -16,14 +18,9 @@ mod outputs;
 mod settle;
 mod vco;
 
-pub enum PllAnswer {
-    Planned(Pll),
-    Refused(Refusal),
-}
-
 // One PLL of a source of so many hertz: idle, its settings, or a refusal of 6 to 15, in the order of the numbers.
 pub fn plan_pll(odd: bool, source: u32, request: PllRequest) -> PllAnswer
-    ensures { λ r. ⌜ r ≡ pllAnswer (onePllOf odd source request) ⌝ }
+    ensures { λ r. ⌜ pllResult r ≡ onePllOf odd source request ⌝ }
 {
     if source == 0 {
         return PllAnswer::Refused(Refusal::SourceZero);
@@ -37,7 +34,7 @@ pub fn plan_pll(odd: bool, source: u32, request: PllRequest) -> PllAnswer
 // Idle, or refusals 8 and 9.
 fn run_pll(odd: bool, source: u32, request: PllRequest) -> PllAnswer
     requires { ⌜ (1 ≤ source) × (noneZero request ≡ true) ⌝ }
-    ensures { λ a. ⌜ a ≡ pllAnswer (pllOf odd source request) ⌝ }
+    ensures { λ a. ⌜ pllResult a ≡ pllOf odd source request ⌝ }
 {
     match outputs::span_of(odd, request) {
         Outputs::Nothing => return PllAnswer::Planned(Pll::Idle),
@@ -56,7 +53,7 @@ fn run_pll(odd: bool, source: u32, request: PllRequest) -> PllAnswer
 // Refusals 10 and 11: the VCO's range and target, and M.
 fn divide(odd: bool, source: u32, request: PllRequest, least: u32, most: u32) -> PllAnswer
     requires { ⌜ Spanned odd source request least most ⌝ }
-    ensures { λ a. ⌜ a ≡ pllAnswer (afterSpan odd source request) ⌝ }
+    ensures { λ a. ⌜ pllResult a ≡ afterSpan odd source request ⌝ }
 {
     let g = vco::range_of(most);
     let target = vco::target_of(least, most, g.end);

@@ -3,13 +3,13 @@ ghost use mathlib.Core.Path.{_≡_};
 ghost use Prim.Native.Nat.{_*_, _<_};
 ghost use Rattle.rules.specs.Document01.Hertz.{hertzOr};
 ghost use Rattle.rules.specs.Document01.OnePll as Rules;
-ghost use Rattle.pll.specs.Answer.{pllAnswer};
+ghost use Rattle.rules.specs.Answers.{pllResult};
 ghost use Rattle.pll.specs.Settle.{HasDivider, Settles, multiplied, settledFor, Placed, placed};
-use crate::PllAnswer;
 use types::Fracn;
 use types::Fraction;
 use types::Hertz;
 use types::Pll;
+use types::PllAnswer;
 use types::PllOutput;
 use types::PllRequest;
 use types::PllSettings;
@@ -26,7 +26,7 @@ pub fn settle(
     reference: u32,
 ) -> PllAnswer
     requires { ⌜ Settles request target reference ⌝ }
-    ensures { λ a. ⌜ a ≡ pllAnswer (Rules.running (settledFor odd request vcosel target m reference)) ⌝ }
+    ensures { λ a. ⌜ pllResult a ≡ Rules.running (settledFor odd request vcosel target m reference) ⌝ }
 {
     let n = target / reference;
     if n < 4 {
@@ -111,7 +111,7 @@ fn multiply(strategy: Strategy, reference: u32, n: u32, divider: u32, output: u3
 // Refusals 14 and 15, and the settings.
 fn place(odd: bool, request: PllRequest, c: Chosen, fraction: Fraction) -> PllAnswer
     requires { ⌜ Placed request c ⌝ }
-    ensures { λ a. ⌜ a ≡ pllAnswer (Rules.running (placed odd request c fraction)) ⌝ }
+    ensures { λ a. ⌜ pllResult a ≡ Rules.running (placed odd request c fraction) ⌝ }
 {
     let p = request.p;
     let q = request.q;

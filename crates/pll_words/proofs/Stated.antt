@@ -7,7 +7,7 @@ use Rattle.types.specs.declared.Fraction.the-variants.{Whole, Part}
 use Rattle.types.specs.declared.PllOutput.the-variants.{Off, On}
 use Rattle.types.specs.declared.PllSettings.{PllSettings}
 use Rattle.types.specs.declared.Pll.the-variants.{Idle, Runs}
-use Rattle.rules.specs.Document01.Words.{storedAt}
+use Rattle.rules.specs.Words.{storedAt}
 use Rattle.pll_words.specs.PllWords.{pllStored}
 
 abbrev settings : Fraction → PllSettings

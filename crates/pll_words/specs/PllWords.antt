@@ -8,7 +8,7 @@ use Rattle.types.specs.declared.PllOutput.{PllOutput}
 use Rattle.types.specs.declared.PllOutput.the-variants.{Off, On}
 use Rattle.types.specs.declared.Pll.{Pll}
 use Rattle.types.specs.declared.Pll.the-variants.{Idle, Runs}
-use Rattle.rules.specs.Document01.Words.{storedAt}
+use Rattle.rules.specs.Words.{storedAt}
 
 -- FRACEN: 1 in Fractional
 abbrev pub fracenOf : Fraction → ℕ

@@ -103,9 +103,9 @@ fn outputs_words(x: Pll) -> [u32; 9]
 }
 
 // Eighteen words: the settings, then the outputs.
-pub fn store(x: Pll, out: &mut [u32])
+pub fn store_pll(x: Pll, out: &mut [u32])
     ensures { λ r. ⌜ now (out .exit) ≡ pllStored x (now (out .entry)) ⌝ }
 {
-    words::store(out, 0, setting_words(x));
-    words::store(out, 9, outputs_words(x))
+    words::store_words(out, 0, setting_words(x));
+    words::store_words(out, 9, outputs_words(x))
 }

@@ -6,17 +6,13 @@ use Prim.Native.Nat.{ℕ, _≤_}
 use native.Mathlib.Omega.{arith}
 use lib.Dec.{leb, ltb}
 use borrow.Author.Tests.{le-leb, lt-leb, leb-true, ltb-true}
+use Rattle.rules.specs.Document01.Buses.{RatioRow, divisorBy}
 use Rattle.laws.proofs.Tests.{by-test, and-left, and-right}
 
--- the divisor of the first row that the ratio lies in, else another
-abbrev pub byRows : List (ℕ × ℕ) → (other x : ℕ) → ℕ
-byRows [] other x = other
-byRows (r ∷ rs) other x = cond (leb x (r .0)) (r .1) (byRows rs other x)
-
 -- each row ends below low, or at high or beyond it
-abbrev pub clear : (low high : ℕ) → List (ℕ × ℕ) → Bool
+abbrev pub clear : (low high : ℕ) → List RatioRow → Bool
 clear low high [] = true
-clear low high (r ∷ rs) = (leb high (r .0) || ltb (r .0) low) && clear low high rs
+clear low high (r ∷ rs) = (leb high (r .bound) || ltb (r .bound) low) && clear low high rs
 
 module _ (low high x : ℕ) (l : low ≤ x) (h : x ≤ high) where
   same : (last : ℕ) → leb high last || ltb last low ≡ true → leb high last ≡ leb x last
@@ -25,8 +21,8 @@ module _ (low high x : ℕ) (l : low ≤ x) (h : x ≤ high) where
       (λ (y : leb high last ≡ true). let k = leb-true high last y in rw (y, le-leb x last (omega arith)))
       (λ (y : leb high last ≡ false). let k = ltb-true last low (rw y at t) in rw (y, lt-leb x last (omega arith)))
 
-  pub steady : (rs : List (ℕ × ℕ)) (other : ℕ) → clear low high rs ≡ true → byRows rs other high ≡ byRows rs other x
+  pub steady : (rs : List RatioRow) (other : ℕ) → clear low high rs ≡ true → divisorBy rs other high ≡ divisorBy rs other x
   steady [] other t = refl
   steady (r ∷ rs) other t =
-      rw (same (r .0) (and-left (leb high (r .0) || ltb (r .0) low) _ t))
-      (ap (cond (leb x (r .0)) (r .1)) (steady rs other (and-right (leb high (r .0) || ltb (r .0) low) _ t)))
+      rw (same (r .bound) (and-left (leb high (r .bound) || ltb (r .bound) low) _ t))
+      (ap (cond (leb x (r .bound)) (r .divisor)) (steady rs other (and-right (leb high (r .bound) || ltb (r .bound) low) _ t)))

@@ -5,31 +5,13 @@ ghost use Prim.Native.Nat.{_≤_};
 ghost use Rattle.rules.specs.Document01.Hertz.{ratioOf, hertzOr, notZero};
 ghost use Rattle.rules.specs.Document01.Buses.{hpreOf, ppreOf, ahbOf, apbOf, timerOf};
 ghost use Rattle.rules.specs.Document01.Mco.{mcoOf};
-ghost use Rattle.prescaler.specs.Prescaler.{busAnswer, mcoAnswer};
+ghost use Rattle.rules.specs.Answers.{busResult, mcoResult};
+use types::Bus;
+use types::BusAnswer;
 use types::Hertz;
+use types::Mco;
+use types::McoAnswer;
 use types::Refusal;
-
-// A bus: its divisor and its clock in hertz.
-pub struct Bus {
-    pub pre: u32,
-    pub clock: u32,
-}
-
-pub enum BusAnswer {
-    Divided(Bus),
-    Refused(Refusal),
-}
-
-// A clock that the chip puts out: its prescaler and its clock.
-pub struct Prescaled {
-    pub pre: u32,
-    pub clock: Hertz,
-}
-
-pub enum McoAnswer {
-    Prescaler(Prescaled),
-    Refused(Refusal),
-}
 
 // clock / wanted, rounded up.
 fn ratio(clock: u32, wanted: u32) -> u32
@@ -112,7 +94,7 @@ fn hpre_of(ratio: u32) -> u32
 
 // AHB from the system clock, with refusals 18 and 19.
 pub fn ahb(system: u32, requested: Hertz) -> BusAnswer
-    ensures { λ r. ⌜ r ≡ busAnswer (ahbOf system requested) ⌝ }
+    ensures { λ r. ⌜ busResult r ≡ ahbOf system requested ⌝ }
 {
     if is_zero(requested) {
         return BusAnswer::Refused(Refusal::BusZero);
@@ -127,7 +109,7 @@ pub fn ahb(system: u32, requested: Hertz) -> BusAnswer
 
 // An APB from the AHB clock, with refusal 18.
 pub fn apb(hclk: u32, requested: Hertz) -> BusAnswer
-    ensures { λ r. ⌜ r ≡ busAnswer (apbOf hclk requested) ⌝ }
+    ensures { λ r. ⌜ busResult r ≡ apbOf hclk requested ⌝ }
 {
     if is_zero(requested) {
         return BusAnswer::Refused(Refusal::BusZero);
@@ -151,10 +133,10 @@ pub fn timer(hclk: u32, ppre: u32) -> u32
 
 // A clock output from the clock of its source, with refusals 22 and 23.
 pub fn mco(clock: u32, requested: Hertz) -> McoAnswer
-    ensures { λ r. ⌜ r ≡ mcoAnswer (mcoOf clock requested) ⌝ }
+    ensures { λ r. ⌜ mcoResult r ≡ mcoOf clock requested ⌝ }
 {
     match requested {
-        Hertz::Unset => McoAnswer::Prescaler(Prescaled {
+        Hertz::Unset => McoAnswer::Prescaled(Mco {
             pre: 0,
             clock: Hertz::Unset,
         }),
@@ -170,7 +152,7 @@ pub fn mco(clock: u32, requested: Hertz) -> McoAnswer
                 return McoAnswer::Refused(Refusal::McoRatio);
             }
             let out = clock / pre;
-            McoAnswer::Prescaler(Prescaled {
+            McoAnswer::Prescaled(Mco {
                 pre,
                 clock: Hertz::Hz(out),
             })

@@ -2,7 +2,7 @@
 ghost use mathlib.Core.Path.{_≡_};
 ghost use Prim.Native.Nat.{_<_};
 ghost use Rattle.rules.specs.Document01.Walk.{shownOf, voltageTo, voltageStepped};
-ghost use Rattle.rules.specs.Document01.Words.{shownCount, ran};
+ghost use Rattle.rules.specs.Words.{shownCount, ran};
 ghost use lib.ListN.{length};
 ghost use Rattle.pwr.specs.Walk.{standOf, freshWalk, placeAfter, steppedWalk};
 use fields::ACTVOS;
@@ -105,12 +105,9 @@ pub fn run(target: u32, reads: &[u32], shown: &mut [u32]) -> usize
     let n = words::shown_count(reads.len(), shown.len());
     let mut w = fresh(target);
     for i in 0..n {
-        words::store(shown, 9 * i, words::shown_words(shows(w)));
-        w = stepped(
-            w,
-            words::read_at(reads, 2 * i),
-            words::read_at(reads, 2 * i + 1),
-        );
+        words::store_words(shown, 9 * i, words::shown_words(shows(w)));
+        let k = 2 * i;
+        w = stepped(w, fields::word(reads, k), fields::word(reads, k + 1));
     }
     n
 }

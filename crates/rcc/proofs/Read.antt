@@ -11,13 +11,14 @@ use Rattle.types.specs.declared.Planned.{Planned}
 use Rattle.types.specs.declared.Refusal.{Refusal}
 use Rattle.types.specs.declared.Refusal.the-variants.{OutsideCodes, BankLength}
 use Rattle.rules.specs.Document01.Result.{Result, refused, ok}
-use Rattle.rules.specs.Document01.Plan.{Asked, requestOf, answered, answerTo, planOf, bankPlanOf}
+use Rattle.rules.specs.Document01.Plan.{Asked, requestOf, answered, answerTyped, planOf, bankPlanOf}
 use Rattle.rules.specs.Document01.Entries.{entriesOf}
 use Rattle.rules.specs.Document01.Bank.{applyAll}
 use Rattle.rules.proofs.Document01.RefusalsOfCalls.{outside-codes}
 use Rattle.rules.proofs.Demands.{typed, with-bank}
 use Rattle.request.specs.declared.RequestRead.{RequestRead}
 use Rattle.request.specs.Request.{requestRead}
+use Rattle.rules.proofs.Refused.Calls.{third-fits}
 
 -- what was read, as an Asked
 abbrev pub askedBy : Result Asked → Asked
@@ -43,8 +44,10 @@ module _ (bytes : List ℕ) (chip : Chip) where
   unfolding planOf
   refused-unread y e h x r = r ∙ rw (not-read (sym (ap (λ z. z .read) e) ∙ h))
 
-  pub answered-read : (y : RequestRead) → y ≡ requestRead (requestOf bytes chip) → y .read ≡ true → (x : Planned) → x ≡ answerTo (y .request) (y .chip) → x ≡ planOf bytes chip
-  answered-read y e h x r = r ∙ rw e (sym (typed bytes chip (askedBy (requestOf bytes chip)) (was-read (sym (ap (λ z. z .read) e) ∙ h))))
+  pub answered-read : (y : RequestRead) → y ≡ requestRead (requestOf bytes chip) → y .read ≡ true → (x : Planned) → x ≡ answerTyped (y .request) (y .chip) → x ≡ planOf bytes chip
+  answered-read y e h x r =
+      let a = was-read (sym (ap (λ z. z .read) e) ∙ h) in
+      r ∙ rw e (third-fits bytes chip (askedBy (requestOf bytes chip)) a ∙ sym (typed bytes chip (askedBy (requestOf bytes chip)) a))
 
   -- ---- the bank call
   pub bank-unread : (words : ℕ) (y : RequestRead) → y ≡ requestRead (requestOf bytes chip) → y .read ≡ false → (x : Planned) → x ≡ answered (refused OutsideCodes) → x ≡ bankPlanOf bytes chip words
@@ -55,7 +58,7 @@ module _ (bytes : List ℕ) (chip : Chip) where
   unfolding bankPlanOf
   bank-length words y e h l x r = r ∙ rw (was-read (sym (ap (λ z. z .read) e) ∙ h), ne-eqb words 82 l)
 
-  pub bank-answered : (words : ℕ) (y : RequestRead) → y ≡ requestRead (requestOf bytes chip) → y .read ≡ true → words ≡ 82 → (x : Planned) → x ≡ answerTo (y .request) (y .chip) → x ≡ bankPlanOf bytes chip words
+  pub bank-answered : (words : ℕ) (y : RequestRead) → y ≡ requestRead (requestOf bytes chip) → y .read ≡ true → words ≡ 82 → (x : Planned) → x ≡ answerTyped (y .request) (y .chip) → x ≡ bankPlanOf bytes chip words
   bank-answered words y e h l x r = answered-read y e h x r ∙ rw l (sym (with-bank bytes chip))
 
 -- a refusal keeps every word

@@ -50,6 +50,6 @@ pub fn plan_bank(request: &[u8], chip: Chip, bank: &mut [u32]) -> Planned
     let q = typed.request;
     let c = typed.chip;
     let planned = freeze::answer_to(q, c);
-    registers::store(planned, bank);
+    registers::apply(planned, bank);
     planned
 }

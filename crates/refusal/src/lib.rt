@@ -1,11 +1,19 @@
 // The number of each refusal, as document 01 has it, and of an answer.
 ghost use mathlib.Core.Path.{_≡_};
-ghost use Rattle.rules.specs.Document01.Refusals.{numberOf, codeOf};
+ghost use Rattle.rules.specs.Document01.Refusals.{numberOf, refusalOf, codeOf};
+ghost use Rattle.refusal.specs.Listed.{Is};
 use types::Answer;
 use types::Refusal;
 
 pub fn number_of(n: Refusal) -> u32
     ensures { λ r. ⌜ r ≡ numberOf n ⌝ }
+{
+    listed_number(n)
+}
+
+// The number under which the list has the refusal.
+fn listed_number(n: Refusal) -> u32
+    ensures { λ r. ⌜ Is (refusalOf r) n ⌝ }
 {
     match n {
         Refusal::OutsideCodes => 1,

@@ -9,7 +9,7 @@ use types::Planned;
 mod words;
 
 // The bank becomes what the whole list leaves of it. A field past its end is not stored, and a refusal stores nothing.
-pub fn store(x: Planned, bank: &mut [u32])
+pub fn apply(x: Planned, bank: &mut [u32])
     ensures { λ r. ⌜ now (bank .exit) ≡ applyAll (entriesOf x) (now (bank .entry)) ⌝ }
 {
     let answer = x.answer;
@@ -25,27 +25,12 @@ fn store_plan(plan: Plan, bank: &mut [u32])
     ensures { λ r. ⌜ now (bank .exit) ≡ applyAll (planEntries plan) (now (bank .entry)) ⌝ }
 {
     let plls = plan.plls;
-    let hse = plan.hse;
+    let given = plan.clocks;
+    let hse = given.hse;
     words::set_up_all(plls, bank);
-    words::clocks(
-        plan.delay,
-        plan.latency,
-        plan.mco1sel,
-        plan.mco1pre,
-        plan.mco2sel,
-        plan.mco2pre,
-        bank,
-    );
+    words::clocks(plan.waits, plan.selectors, plan.mcos, bank);
     words::hse_on(hse, plan.bypass, bank);
-    words::sources(plan.three, plan.src, bank);
+    words::sources(plan.three, plan.selectors.src, bank);
     words::start_all(plls, bank);
-    words::buses(
-        plan.hpre,
-        plan.ppre1,
-        plan.ppre2,
-        plan.ppre3,
-        plan.ckpersel,
-        plan.sw,
-        bank,
-    )
+    words::buses(plan.buses, plan.selectors, bank)
 }

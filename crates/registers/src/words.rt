@@ -2,16 +2,19 @@
 ghost use mathlib.Core.Path.{_≡_};
 ghost use Prim.Native.Nat.{_<_};
 ghost use lib.ListN.{set};
-ghost use Rattle.rules.specs.Document01.Entries.{outputEntries, fractionEntries, baseEntries, settingEntries, setupEntries, hseEntries, sourceEntries, outputStart, startEntries};
+ghost use Rattle.rules.specs.Document01.Entries.{outputEntries, fractionEntries, baseEntries, settingEntries, setupEntries, hseEntries, sourceEntries, outputStart, startEntries, setups, clockEntries, starts, busEntries};
 ghost use Rattle.rules.specs.Document01.Bank.{applyAll};
-ghost use Rattle.fields.specs.Segments.{setups, clockList, starts, busList};
 use fields::*;
+use types::Buses;
 use types::Fraction;
 use types::Hertz;
+use types::Mcos;
 use types::Pll;
 use types::PllOutput;
 use types::PllPlan;
 use types::PllSettings;
+use types::Selectors;
+use types::Waits;
 
 // Two fields of an entry.
 fn put2(f: usize, v: u32, g: usize, w: u32, bank: &mut [u32])
@@ -103,24 +106,16 @@ pub fn set_up_all(plls: [PllPlan; 3], bank: &mut [u32])
 }
 
 // LSION; WRHIGHFREQ, LATENCY, PRFTEN; CSION; HSI48ON; the MCOs.
-pub fn clocks(
-    delay: u32,
-    latency: u32,
-    mco1sel: u32,
-    mco1pre: u32,
-    mco2sel: u32,
-    mco2pre: u32,
-    bank: &mut [u32],
-)
-    ensures { λ r. ⌜ now (bank .exit) ≡ applyAll (clockList delay latency mco1sel mco1pre mco2sel mco2pre) (now (bank .entry)) ⌝ }
+pub fn clocks(w: Waits, s: Selectors, m: Mcos, bank: &mut [u32])
+    ensures { λ r. ⌜ now (bank .exit) ≡ applyAll (clockEntries w s m) (now (bank .entry)) ⌝ }
 {
     put(LSION, 1, bank);
-    put2(WRHIGHFREQ, delay, LATENCY, latency, bank);
-    put(PRFTEN, prften(latency), bank);
+    put2(WRHIGHFREQ, w.delay, LATENCY, w.latency, bank);
+    put(PRFTEN, prften(w.latency), bank);
     put(CSION, 1, bank);
     put(HSI48ON, 1, bank);
-    put2(MCO1SEL, mco1sel, MCO1PRE, mco1pre, bank);
-    put2(MCO2SEL, mco2sel, MCO2PRE, mco2pre, bank)
+    put2(MCO1SEL, s.mco1sel, MCO1PRE, m.mco1.pre, bank);
+    put2(MCO2SEL, s.mco2sel, MCO2PRE, m.mco2.pre, bank)
 }
 
 // With HSE: HSEON, HSEBYP.
@@ -184,22 +179,14 @@ pub fn start_all(plls: [PllPlan; 3], bank: &mut [u32])
 }
 
 // HPRE, PPRE1 to 3; CKPERSEL; TIMPRE; SW; SBSEN; EN1 1, CS1 0, EN2 1, CS2 0.
-pub fn buses(
-    hpre: u32,
-    ppre1: u32,
-    ppre2: u32,
-    ppre3: u32,
-    ckpersel: u32,
-    sw: u32,
-    bank: &mut [u32],
-)
-    ensures { λ r. ⌜ now (bank .exit) ≡ applyAll (busList hpre ppre1 ppre2 ppre3 ckpersel sw) (now (bank .entry)) ⌝ }
+pub fn buses(b: Buses, s: Selectors, bank: &mut [u32])
+    ensures { λ r. ⌜ now (bank .exit) ≡ applyAll (busEntries b s) (now (bank .entry)) ⌝ }
 {
-    put2(HPRE, hpre, PPRE1, ppre1, bank);
-    put2(PPRE2, ppre2, PPRE3, ppre3, bank);
-    put(CKPERSEL, ckpersel, bank);
+    put2(HPRE, b.ahb.pre, PPRE1, b.apb1.pre, bank);
+    put2(PPRE2, b.apb2.pre, PPRE3, b.apb3.pre, bank);
+    put(CKPERSEL, s.ckpersel, bank);
     put(TIMPRE, 0, bank);
-    put(SW, sw, bank);
+    put(SW, s.sw, bank);
     put(SBSEN, 1, bank);
     put2(EN1, 1, CS1, 0, bank);
     put2(EN2, 1, CS2, 0, bank)

@@ -12,7 +12,7 @@ use Rattle.types.specs.declared.Pll.the-variants.{Idle, Runs}
 use Rattle.types.specs.declared.Plan.{Plan}
 use Rattle.rules.specs.Document01.OnePll.{clockOf}
 use Rattle.rules.specs.Document01.Entries.{pllIn}
-use Rattle.rules.specs.Document01.Words.{storedFrom, hertzWords, reportWords}
+use Rattle.rules.specs.Words.{storedFrom, hertzWords, reportWords}
 use Rattle.report.specs.Clocks.{always, crystals, outputs, there, clocks, clockAt, inWords}
 
 -- two words at a place that is not a numeral
@@ -103,7 +103,7 @@ left-from (x ∷ hs) (suc k) h = left-from hs k (omega arith)
 -- after k clocks: what is left to store comes to the whole report
 pub record Going (p : Plan) (out₀ : List ℕ) (out : List ℕ) (k : ℕ) : Type 0 where
   pub below : k ≤ 26
-  pub left : storedFrom out (2 * k) (inWords (drop k (clocks p)) (p .ppre1 ∷ p .ppre2 ∷ p .ppre3 ∷ [])) ≡ storedFrom out₀ 0 (reportWords p)
+  pub left : storedFrom out (2 * k) (inWords (drop k (clocks p)) (p .buses .apb1 .pre ∷ p .buses .apb2 .pre ∷ p .buses .apb3 .pre ∷ [])) ≡ storedFrom out₀ 0 (reportWords p)
   pub same : length out ≡ length out₀
 
 module _ (p : Plan) (out₀ : List ℕ) where
@@ -121,7 +121,7 @@ module _ (p : Plan) (out₀ : List ℕ) where
           same = rw f (pair-length out (2 * k) _ _ ∙ g .same);
         }
 
-    pub ends : 26 ≤ k → {last next : List ℕ} → next ≡ storedFrom out 52 (p .ppre1 ∷ p .ppre2 ∷ []) → last ≡ set next 54 (p .ppre3) → last ≡ storedFrom out₀ 0 (reportWords p)
+    pub ends : 26 ≤ k → {last next : List ℕ} → next ≡ storedFrom out 52 (p .buses .apb1 .pre ∷ p .buses .apb2 .pre ∷ []) → last ≡ set next 54 (p .buses .apb3 .pre) → last ≡ storedFrom out₀ 0 (reportWords p)
     ends h e f =
         let b = g .below in
         let l : k ≡ 26 = omega arith in

@@ -8,16 +8,16 @@ use Rattle.types.specs.declared.Pll.{Pll}
 use Rattle.types.specs.declared.Plan.{Plan}
 use Rattle.rules.specs.Document01.OnePll.{pClock, qClock, rClock}
 use Rattle.rules.specs.Document01.Entries.{pllIn}
-use Rattle.rules.specs.Document01.Words.{hertzWords}
+use Rattle.rules.specs.Words.{hertzWords}
 
 -- the system clock, the buses, the timers, the peripheral clock and the chip's oscillators: always there
 abbrev pub always : Plan → List ℕ
 always p =
-    p .sys ∷ p .hclk ∷ p .pclk1 ∷ p .pclk2 ∷ p .pclk3 ∷ p .timx ∷ p .timy ∷ p .per ∷ p .hsi ∷ p .csi ∷ p .hsi48 ∷ p .lsi ∷ []
+    p .clocks .sys ∷ p .buses .ahb .clock ∷ p .buses .apb1 .clock ∷ p .buses .apb2 .clock ∷ p .buses .apb3 .clock ∷ p .clocks .timx ∷ p .clocks .timy ∷ p .clocks .per ∷ p .clocks .hsi ∷ p .clocks .csi ∷ p .clocks .hsi48 ∷ p .clocks .lsi ∷ []
 
 -- crystals and clock outputs
 abbrev pub crystals : Plan → List Hertz
-crystals p = p .hse ∷ p .lse ∷ p .audio ∷ p .mco1 ∷ p .mco2 ∷ []
+crystals p = p .clocks .hse ∷ p .clocks .lse ∷ p .clocks .audio ∷ p .mcos .mco1 .clock ∷ p .mcos .mco2 .clock ∷ []
 
 -- P, Q and R of a PLL
 abbrev pub outputs : Pll → List Hertz

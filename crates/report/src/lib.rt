@@ -4,8 +4,8 @@ ghost use Prim.Native.Nat.{_<_};
 ghost use mathlib.Core.List.{[], _∷_};
 ghost use lib.ListN.{getD};
 ghost use Rattle.rules.specs.Document01.OnePll.{clockOf};
-ghost use Rattle.rules.specs.Document01.Words.{storedFrom, hertzWords, reportWords};
-ghost use Rattle.fields.specs.Segments.{pllOf};
+ghost use Rattle.rules.specs.Words.{storedFrom, hertzWords, reportWords};
+ghost use Rattle.rules.specs.Document01.OnePll.{pllFrom};
 ghost use Rattle.report.specs.Clocks.{always, crystals, outputs, clocks, clockAt};
 use fields::put;
 use types::Hertz;
@@ -16,25 +16,23 @@ use types::PllPlan;
 use types::PllSettings;
 
 // The system clock, the buses, the timers, the peripheral clock and the chip's oscillators: always there.
-fn always_at(p: Plan, k: usize) -> u32
-    requires { ⌜ k < 12 ⌝ }
-    ensures { λ r. ⌜ r ≡ getD (always p) k 0 ⌝ }
+fn always_of(p: Plan) -> [u32; 12]
+    ensures { λ r. ⌜ r ≡ always p ⌝ }
 {
-    let a = [
-        p.sys,
-        p.hclk,
-        p.pclk1,
-        p.pclk2,
-        p.pclk3,
-        p.timx,
-        p.timy,
-        p.per,
-        p.hsi,
-        p.csi,
-        p.hsi48,
-        p.lsi,
-    ];
-    a[k]
+    [
+        p.clocks.sys,
+        p.buses.ahb.clock,
+        p.buses.apb1.clock,
+        p.buses.apb2.clock,
+        p.buses.apb3.clock,
+        p.clocks.timx,
+        p.clocks.timy,
+        p.clocks.per,
+        p.clocks.hsi,
+        p.clocks.csi,
+        p.clocks.hsi48,
+        p.clocks.lsi,
+    ]
 }
 
 // Crystals and clock outputs.
@@ -42,11 +40,15 @@ fn crystal_at(p: Plan, k: usize) -> Hertz
     requires { ⌜ k < 5 ⌝ }
     ensures { λ r. ⌜ r ≡ clockAt (crystals p) k ⌝ }
 {
-    let hse = p.hse;
-    let lse = p.lse;
-    let audio = p.audio;
-    let mco1 = p.mco1;
-    let mco2 = p.mco2;
+    let c = p.clocks;
+    let m = p.mcos;
+    let one = m.mco1;
+    let two = m.mco2;
+    let hse = c.hse;
+    let lse = c.lse;
+    let audio = c.audio;
+    let mco1 = one.clock;
+    let mco2 = two.clock;
     let a = [hse, lse, audio, mco1, mco2];
     a[k]
 }
@@ -76,7 +78,7 @@ fn output_at(s: PllSettings, k: usize) -> Hertz
 // P, Q or R of PLL j.
 fn pll_at(plls: [PllPlan; 3], j: usize, k: usize) -> Hertz
     requires { ⌜ (j < 3) × (k < 3) ⌝ }
-    ensures { λ r. ⌜ r ≡ clockAt (outputs (pllOf plls j)) k ⌝ }
+    ensures { λ r. ⌜ r ≡ clockAt (outputs (pllFrom plls j)) k ⌝ }
 {
     let a = plls[j];
     let x = a.pll;
@@ -87,12 +89,12 @@ fn pll_at(plls: [PllPlan; 3], j: usize, k: usize) -> Hertz
 }
 
 // The clocks in the report's order.
-fn clock_at(p: Plan, k: usize) -> Hertz
-    requires { ⌜ k < 26 ⌝ }
+fn clock_at(p: Plan, there: [u32; 12], k: usize) -> Hertz
+    requires { ⌜ (k < 26) × (there ≡ always p) ⌝ }
     ensures { λ r. ⌜ r ≡ clockAt (clocks p) k ⌝ }
 {
     if k < 12 {
-        return Hertz::Hz(always_at(p, k));
+        return Hertz::Hz(there[k]);
     }
     if k < 17 {
         return crystal_at(p, k - 12);
@@ -128,12 +130,13 @@ fn put_clock(out: &mut [u32], at: usize, h: Hertz)
 }
 
 // The whole report: the clocks, then PPRE1 to 3.
-pub fn store(plan: Plan, out: &mut [u32])
+pub fn store_report(plan: Plan, out: &mut [u32])
     ensures { λ r. ⌜ now (out .exit) ≡ storedFrom (now (out .entry)) 0 (reportWords plan) ⌝ }
 {
+    let there = always_of(plan);
     for k in 0..26 {
-        put_clock(out, 2 * k, clock_at(plan, k));
+        put_clock(out, 2 * k, clock_at(plan, there, k));
     }
-    put2(out, 52, plan.ppre1, plan.ppre2);
-    put(54, plan.ppre3, out)
+    put2(out, 52, plan.buses.apb1.pre, plan.buses.apb2.pre);
+    put(54, plan.buses.apb3.pre, out)
 }

@@ -3,24 +3,12 @@ use mathlib.Core.Bool.{Bool, _&&_, _||_}
 use lib.Dec.{eqb, ltb}
 use Rattle.types.specs.declared.Chip.{Chip}
 use Rattle.types.specs.declared.ChipState.{ChipState}
-use Rattle.rules.specs.Document01.Chip.{isBit, isHsidiv, hsidivOf, scaleOf}
+use Rattle.rules.specs.Document01.Chip.{isBit, isHsidiv, hsidivOf, scaleOf, permission}
 
 -- permissions 0 or 1
 abbrev pub oddsOk : Chip → Bool
-oddsOk c = isBit (c .odd1) && (isBit (c .odd2) && isBit (c .odd3))
+oddsOk c = isBit (permission c 0) && (isBit (permission c 1) && isBit (permission c 2))
 
 -- PLL count 2 or 3, permissions and HSION 0 or 1, voltage scale 0 to 3, HSIDIV 1, 2, 4, 8
 unfoldable pub chipOk : Chip → Bool
 chipOk c = (eqb (c .plls) 2 || eqb (c .plls) 3) && (oddsOk c && (ltb (c .scale) 4 && (isBit (c .hsion) && isHsidiv (c .hsidiv))))
-
--- the state that the numbers stand for
-abbrev pub stateOf : Chip → ChipState
-stateOf c = record {
-  three = eqb (c .plls) 3;
-  odd1 = eqb (c .odd1) 1;
-  odd2 = eqb (c .odd2) 1;
-  odd3 = eqb (c .odd3) 1;
-  scale = scaleOf (c .scale);
-  hsion = eqb (c .hsion) 1;
-  hsidiv = hsidivOf (c .hsidiv);
-}

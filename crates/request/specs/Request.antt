@@ -3,7 +3,7 @@ use mathlib.Core.Bool.{true, false, cond}
 use mathlib.Core.List.{List, [], _∷_}
 use Prim.Native.Nat.{ℕ}
 use lib.Dec.{eqb}
-use lib.ListN.{length}
+use lib.ListN.{length, replicate}
 use Rattle.types.specs.declared.Hertz.the-variants.{Unset}
 use Rattle.types.specs.declared.Mco1Source.{Mco1Source}
 use Rattle.types.specs.declared.Mco2Source.{Mco2Source}
@@ -41,7 +41,7 @@ blankRequest = record {
 
 -- the chip beside it
 abbrev pub blankChip : ChipState
-blankChip = record { three = false; odd1 = false; odd2 = false; odd3 = false; scale = Scale0; hsion = false; hsidiv = Hsidiv.Div1 }
+blankChip = record { three = false; odd = replicate 3 false; scale = Scale0; hsion = false; hsidiv = Hsidiv.Div1 }
 
 -- refusal 1
 abbrev pub blankRead : RequestRead

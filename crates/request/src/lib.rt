@@ -53,9 +53,7 @@ fn blank() -> RequestRead
 {
     let chip = ChipState {
         three: false,
-        odd1: false,
-        odd2: false,
-        odd3: false,
+        odd: [false; 3],
         scale: Scale::Scale0,
         hsion: false,
         hsidiv: Hsidiv::Div1,

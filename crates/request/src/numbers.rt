@@ -3,7 +3,8 @@ ghost use mathlib.Core.Path.{_≡_};
 ghost use mathlib.Core.Bool.{_||_};
 ghost use lib.Dec.{eqb, ltb};
 ghost use Rattle.rules.specs.Document01.Chip.{isHsidiv, hsidivOf, scaleOf};
-ghost use Rattle.request.specs.Chips.{chipOk, oddsOk, stateOf};
+ghost use Rattle.request.specs.Chips.{chipOk, oddsOk};
+ghost use Rattle.rules.specs.Demands.ByPlaces.{stateOf};
 use types::Chip;
 use types::ChipState;
 use types::Hsidiv;
@@ -37,7 +38,8 @@ fn is_hsidiv(n: u32) -> bool
 fn odds_ok(chip: Chip) -> bool
     ensures { λ r. ⌜ r ≡ oddsOk chip ⌝ }
 {
-    (chip.odd1 < 2) & ((chip.odd2 < 2) & (chip.odd3 < 2))
+    let odd = chip.odd;
+    (odd[0] < 2) & ((odd[1] < 2) & (odd[2] < 2))
 }
 
 // Whether each number is one of its codes.
@@ -80,13 +82,12 @@ fn hsidiv_of(n: u32) -> Hsidiv
 pub fn state_of(chip: Chip) -> ChipState
     ensures { λ r. ⌜ r ≡ stateOf chip ⌝ }
 {
+    let odd = chip.odd;
     let scale = scale_of(chip.scale);
     let hsidiv = hsidiv_of(chip.hsidiv);
     ChipState {
         three: chip.plls == 3,
-        odd1: chip.odd1 == 1,
-        odd2: chip.odd2 == 1,
-        odd3: chip.odd3 == 1,
+        odd: [odd[0] == 1, odd[1] == 1, odd[2] == 1],
         scale,
         hsion: chip.hsion == 1,
         hsidiv,

@@ -17,7 +17,8 @@ use Rattle.types.specs.declared.Request.{Request}
 use Rattle.rules.specs.Document01.Bytes.{noPart, requestBytes, sizeOf}
 use Rattle.rules.proofs.Document01.BytesWhole.{hertz-length, pll-length, written-length}
 use Rattle.laws.proofs.Tests.{never, and-left, and-right}
-use Rattle.request_bytes.specs.Writing.{isUnset, isInteger, isNoPart, isWritten, roomAfter, Stored, threeBytes, clocksBytes, outputsBytes, pllsBytes}
+use Rattle.request_bytes.specs.Writing.{isWritten, roomAfter, Stored, threeBytes, clocksBytes, outputsBytes, pllsBytes}
+use Rattle.rules.specs.Document01.Bytes.{isUnset, isInteger, isNoPart}
 
 -- ---- stores
 -- two runs of stores are one

@@ -15,21 +15,7 @@ use Rattle.types.specs.declared.PllRequest.{PllRequest}
 use Rattle.types.specs.declared.Request.{Request}
 use Rattle.rules.specs.Document01.Request.{pllAt}
 use Rattle.rules.specs.Document01.Mco.{mco1Code, mco2Code}
-use Rattle.rules.specs.Document01.Bytes.{hertzBytes, flagByte, pllBytes, thirdBytes, requestBytes, sizeOf}
-
--- nothing stands there
-abbrev pub isUnset : Hertz → Bool
-isUnset Unset = true
-isUnset (Hz h) = false
-
--- strategy 0
-abbrev pub isInteger : Strategy → Bool
-isInteger Integer = true
-isInteger Fractional = false
-
--- no PLL3 part: the part that is read on a two-PLL chip
-abbrev pub isNoPart : PllRequest → Bool
-isNoPart a = isInteger (a .strategy) && (isUnset (a .p) && (isUnset (a .q) && isUnset (a .r)))
+use Rattle.rules.specs.Document01.Bytes.{isNoPart, hertzBytes, flagByte, pllBytes, thirdBytes, requestBytes, sizeOf}
 
 -- a request is written where there is room for it and no more, and on a two-PLL chip if it has no PLL3 part
 unfoldable pub isWritten : (three : Bool) → Request → (room : ℕ) → Bool

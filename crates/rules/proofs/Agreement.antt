@@ -16,6 +16,7 @@ pub mod Causes
 pub mod Allowed
 pub mod Split
 pub mod Writes
+pub mod Freezes
 pub mod Whole
 pub mod Walk
 pub mod Departures

@@ -6,7 +6,6 @@ use Rattle.types.specs.declared.Planned.{Planned}
 use Rattle.rules.specs.Document01.Bytes.{byte, end, code, word, hertz, flag, mco1Source, mco2Source, strategy, pllPart, requestPart, requestBytes}
 use Rattle.rules.specs.Document01.Chip.{chipOf}
 use Rattle.rules.specs.Document01.Hertz.{ratioOf}
-use Rattle.rules.specs.Document01.Request.{forSystemClock}
 use Rattle.rules.specs.Document01.Target.{topOf, targetOf}
 use Rattle.rules.specs.Document01.ChoiceOfM.{inRange, shortfallOf, betterOf, bestTo, chosenM}
 use Rattle.ieee754.specs.Steps.{fracnOf, vcoOf}
@@ -15,21 +14,22 @@ use Rattle.rules.specs.Document01.Buses.{peripheralOf, ahbOf, apbOf, tim
 use Rattle.rules.specs.Document01.Mco.{mco1Input, mco2Input, mcoOf}
 use Rattle.rules.specs.Document01.Flash.{atColumn, flashOf}
 use Rattle.rules.specs.Document01.Plan.{pllsOf, busesOf, mcosOf, planWith, chosenPlan, blankPlan, answerTo, requestOf, planOf, bankPlanOf}
-use Rattle.rules.specs.Document01.Entries.{settingEntries, clockEntries, busEntries, planEntries, entriesOf}
+use Rattle.rules.specs.Document01.Entries.{settingEntries, clockEntries, busEntries, planEntries, entriesOf, listWith}
 use Rattle.rules.specs.Document01.Bank.{resetBank}
 use Rattle.rules.specs.Manual.Tree as Tree
 use Rattle.rules.specs.Rust.Pll.{key-of, min-from, min-by-key, search-m, target-setup, divider-setup, range-setup, vco-output-divider-setup, pll-divider-setup, calc-fracn, calc-vco-ck, vco-ck-of, write-pll, pll-setup}
 use Rattle.rules.specs.Rust.Mco.{calculate-prescaler}
 use Rattle.rules.specs.Rust.Rcc.{setters, mco1-setup, mco2-setup, sys-ck-from, sys-ck-setup, ppre-calculate, match-vos, flash-acr, flash-setup, plls-setup, match-per-ck, hclk-calculate, buses-calculate, mco1-in, mco2-in, mcos-calculate, start-clocks, start-plls, switch-clocks, clocks-of, freeze, frozen}
+use Rattle.rules.specs.Document01.Request.{configured}
 
 -- the rules, from bytes and from a typed request
 unfoldable pub byRules : Planned → Planned
-unfolding byte end code word hertz flag mco1Source mco2Source strategy pllPart requestPart requestBytes chipOf requestOf planOf bankPlanOf answerTo chosenPlan blankPlan pllsOf forSystemClock pllOf runs spanned dividedBy settled chosenM bestTo betterOf inRange shortfallOf targetOf topOf fracnOf vcoOf busesOf ahbOf apbOf ratioOf mcosOf mco1Input mco2Input mcoOf planWith flashOf atColumn timerOf peripheralOf lib.Ieee.span lib.Ieee.climb lib.Ieee.size lib.Ieee.odd lib.Ieee.units lib.Ieee.round lib.Ieee.neg lib.Ieee.sum lib.Ieee.add lib.Ieee.sub lib.Ieee.mul lib.Ieee.div lib.Ieee.lt lib.Ieee.eq lib.Ieee.le lib.Ieee.ofInt lib.Ieee.toUnsigned
+unfolding byte end code word hertz flag mco1Source mco2Source strategy pllPart requestPart requestBytes chipOf requestOf planOf bankPlanOf answerTo chosenPlan blankPlan pllsOf configured pllOf runs spanned dividedBy settled chosenM bestTo betterOf inRange shortfallOf targetOf topOf fracnOf vcoOf busesOf ahbOf apbOf ratioOf mcosOf mco1Input mco2Input mcoOf planWith flashOf atColumn timerOf peripheralOf lib.Ieee.span lib.Ieee.climb lib.Ieee.size lib.Ieee.odd lib.Ieee.units lib.Ieee.round lib.Ieee.neg lib.Ieee.sum lib.Ieee.add lib.Ieee.sub lib.Ieee.mul lib.Ieee.div lib.Ieee.lt lib.Ieee.eq lib.Ieee.le lib.Ieee.ofInt lib.Ieee.toUnsigned
 byRules x = x
 
 -- the list, and the bank that it leaves
 unfoldable pub byBank : Planned → Planned
-unfolding byRules entriesOf planEntries settingEntries clockEntries busEntries resetBank
+unfolding byRules entriesOf listWith settingEntries clockEntries busEntries resetBank
 byBank x = x
 
 -- and the clock tree over that bank

@@ -27,10 +27,10 @@ vco s = s .vcosel ∷ s .m ∷ s .n ∷ s .vco ∷ []
 
 -- system, AHB, latency, delay
 abbrev clocks : Plan → List ℕ
-clocks p = p .sys ∷ p .hclk ∷ p .latency ∷ p .delay ∷ []
+clocks p = p .clocks .sys ∷ p .buses .ahb .clock ∷ p .waits .latency ∷ p .waits .delay ∷ []
 
 abbrev at : Scale → ChipState
-at s = record { three = false; odd1 = true; odd2 = true; odd3 = true; scale = s; hsion = true; hsidiv = Hsidiv.Div2 }
+at s = record { three = false; odd = true ∷ true ∷ true ∷ []; scale = s; hsion = true; hsidiv = Hsidiv.Div2 }
 
 -- the medium VCO below 150,000,000: the target, 150,000,001, is what is tested
 pub vco-below-its-range : look (inPll2 vco) (answerTo (onHse 1_999_999 (pll Integer (Hz 1_171_876) (Hz 150_000_001))) (state true)) ≡ plan (1 ∷ 1 ∷ 75 ∷ 149_999_925 ∷ [])

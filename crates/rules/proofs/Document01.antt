@@ -3,12 +3,14 @@ pub mod Target
 pub mod Results
 pub mod Span
 pub mod Multiplier
+pub mod Listed
 pub mod Refusals
 pub mod RefusalsOfCalls
 pub mod Bytes
 pub mod BytesWhole
 pub mod Layout
 pub mod Length
+pub mod Ratios
 pub mod Last
 pub mod Walk
 pub mod Voltage

@@ -1,5 +1,5 @@
--- Every refusal but 12 and 24 is the answer to some request: a planner that never gives one of them is another planner. 12 fits no request
--- (proofs/Document01/Refusals), and 24 is the walk's.
+-- Every refusal that the planner's call or the bank call lists is the answer to some request: a planner that never gives one of them is another
+-- planner.
 use mathlib.Core.Path.{_≡_, refl}
 use mathlib.Core.List.{List, [], _∷_}
 use mathlib.Core.Bool.{false}
@@ -13,7 +13,7 @@ use Rattle.types.specs.declared.Request.{Request}
 use Rattle.types.specs.declared.Chip.{Chip}
 use Rattle.types.specs.declared.Answer.{Answer}
 use Rattle.types.specs.declared.Answer.the-variants.{Accepted, Refused}
-use Rattle.rules.specs.Document01.Refusals.{numberOf}
+use Rattle.rules.specs.Document01.Refusals.{numberOf, bankNumbers}
 use Rattle.rules.specs.Document01.Bytes.{requestBytes}
 use Rattle.rules.specs.Document01.Plan.{planOf, bankPlanOf}
 use Rattle.rules.proofs.Computes.{byRules}
@@ -33,7 +33,7 @@ even q = number (planOf (requestBytes false q) (chip 2 0) .answer)
 
 -- with HSION and HSIDIV as read
 abbrev read : ℕ → ℕ → Chip
-read hsion hsidiv = record { plls = 2; odd1 = 1; odd2 = 1; odd3 = 1; scale = 0; hsion = hsion; hsidiv = hsidiv }
+read hsion hsidiv = record { plls = 2; odd = 1 ∷ 1 ∷ 1 ∷ []; scale = 0; hsion = hsion; hsidiv = hsidiv }
 
 abbrev bank81 : List ℕ → ℕ
 bank81 bytes = number (bankPlanOf bytes (chip 2 1) 81 .answer)
@@ -65,7 +65,7 @@ answers =
     ∷ on (mco1From Mco1Source.Hsi (Hz 2_133_333))
     ∷ []
 
-pub each-occurs : answers ≡ 1 ∷ 2 ∷ 3 ∷ 4 ∷ 5 ∷ 6 ∷ 7 ∷ 8 ∷ 9 ∷ 10 ∷ 11 ∷ 13 ∷ 14 ∷ 15 ∷ 16 ∷ 17 ∷ 18 ∷ 19 ∷ 20 ∷ 21 ∷ 22 ∷ 23 ∷ []
+pub each-occurs : answers ≡ bankNumbers
 unfolding byRules
 each-occurs = refl
 

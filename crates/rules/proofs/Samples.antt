@@ -122,7 +122,7 @@ nothing = onHsi none
 
 -- the seven numbers of a chip
 abbrev pub chip7 : (plls odd1 odd2 odd3 scale hsion hsidiv : ℕ) → Chip
-chip7 plls odd1 odd2 odd3 scale hsion hsidiv = record { plls = plls; odd1 = odd1; odd2 = odd2; odd3 = odd3; scale = scale; hsion = hsion; hsidiv = hsidiv }
+chip7 plls odd1 odd2 odd3 scale hsion hsidiv = record { plls = plls; odd = odd1 ∷ odd2 ∷ odd3 ∷ []; scale = scale; hsion = hsion; hsidiv = hsidiv }
 
 -- PLL count, and odd P allowed (1) or forbidden (0) on every PLL; Scale0, HSION 1, HSIDIV 2
 abbrev pub chip : (plls odd : ℕ) → Chip
@@ -130,11 +130,11 @@ chip plls odd = chip7 plls odd odd odd 0 1 2
 
 -- the same as a state, of two PLLs
 abbrev pub state : (odd : Bool) → ChipState
-state odd = record { three = false; odd1 = odd; odd2 = odd; odd3 = odd; scale = Scale0; hsion = true; hsidiv = Hsidiv.Div2 }
+state odd = record { three = false; odd = odd ∷ odd ∷ odd ∷ []; scale = Scale0; hsion = true; hsidiv = Hsidiv.Div2 }
 
 -- three PLLs, each allowed to divide P by an odd number or not
 abbrev pub state3 : (odd1 odd2 odd3 : Bool) → ChipState
-state3 odd1 odd2 odd3 = record { three = true; odd1 = odd1; odd2 = odd2; odd3 = odd3; scale = Scale0; hsion = true; hsidiv = Hsidiv.Div2 }
+state3 odd1 odd2 odd3 = record { three = true; odd = odd1 ∷ odd2 ∷ odd3 ∷ []; scale = Scale0; hsion = true; hsidiv = Hsidiv.Div2 }
 
 -- ---- setting A: odd P forbidden, system 250,000,000
 abbrev pub a : Request

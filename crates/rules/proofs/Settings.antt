@@ -60,13 +60,13 @@ divisorM s = s .m ∷ []
 -- of the whole plan
 -- HPRE, AHB
 abbrev ahb : Plan → List ℕ
-ahb p = p .hpre ∷ p .hclk ∷ []
+ahb p = p .buses .ahb .pre ∷ p .buses .ahb .clock ∷ []
 
 abbrev latency : Plan → List ℕ
-latency p = p .latency ∷ []
+latency p = p .waits .latency ∷ []
 
 abbrev mco1 : Plan → List ℕ
-mco1 p = p .mco1pre ∷ []
+mco1 p = p .mcos .mco1 .pre ∷ []
 
 -- ---- a setting: its request, odd P allowed (1) or forbidden (0), what is looked at, and what is stated of it: a plan with these numbers, or a
 -- refusal

@@ -4,6 +4,7 @@ pub mod Rows
 pub mod Refused
 pub mod Quantities
 pub mod ByPlaces
+pub mod Departures
 pub mod Agreement
 pub mod Legal
 pub mod Readings

@@ -17,4 +17,3 @@ pub mod Entries
 pub mod Bank
 pub mod Walk
 pub mod ResetReason
-pub mod Words

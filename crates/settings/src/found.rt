@@ -24,7 +24,7 @@ pub fn name_number(name: &[u8]) -> usize {
 
 fn pll(x: Pll) -> [u32; 18] {
     let mut words: [u32; 18] = [0; 18];
-    pll_words::store(x, &mut words);
+    pll_words::store_pll(x, &mut words);
     words
 }
 
@@ -54,10 +54,10 @@ fn numbers(x: Planned) -> [u32; 19] {
         b[10],
         b[13],
         b[11],
-        plan.latency,
-        plan.hclk,
-        plan.hpre,
-        plan.mco1pre,
+        plan.waits.latency,
+        plan.buses.ahb.clock,
+        plan.buses.ahb.pre,
+        plan.mcos.mco1.pre,
     ]
 }
 

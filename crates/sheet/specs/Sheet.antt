@@ -28,4 +28,4 @@ requestLength s = min (bytesMeant s) (length s)
 -- the chip
 unfoldable pub chipOn : List ℕ → Chip
 chipOn s =
-    record { plls = getD s 106 0; odd1 = getD s 107 0; odd2 = getD s 108 0; odd3 = getD s 109 0; scale = getD s 110 0; hsion = getD s 111 0; hsidiv = getD s 112 0 }
+    record { plls = getD s 106 0; odd = getD s 107 0 ∷ getD s 108 0 ∷ getD s 109 0 ∷ []; scale = getD s 110 0; hsion = getD s 111 0; hsidiv = getD s 112 0 }

@@ -77,9 +77,11 @@ pub fn chip(sheet: &[u8]) -> Chip
 {
     Chip {
         plls: number_at(sheet, 106),
-        odd1: number_at(sheet, 107),
-        odd2: number_at(sheet, 108),
-        odd3: number_at(sheet, 109),
+        odd: [
+            number_at(sheet, 107),
+            number_at(sheet, 108),
+            number_at(sheet, 109),
+        ],
         scale: number_at(sheet, 110),
         hsion: number_at(sheet, 111),
         hsidiv: number_at(sheet, 112),

@@ -69,36 +69,26 @@ pub enum Hsidiv {
     Div8,
 }
 
-// Flash wait states: LATENCY, and WRHIGHFREQ's delay.
-pub struct Waits {
-    pub latency: u32,
-    pub delay: u32,
-}
-
-// The chip as it is handed in: the PLL count, for each PLL whether P may divide by an odd number (0 or 1), the voltage scale's
+// The chip as it is handed in: the PLL count, for each PLL by its number whether P may divide by an odd number (0 or 1), the voltage scale's
 // number, and HSION and HSIDIV as read. Any number can stand in any place; refusal 1 judges them.
 pub struct Chip {
     pub plls: u32,
-    pub odd1: u32,
-    pub odd2: u32,
-    pub odd3: u32,
+    pub odd: [u32; 3],
     pub scale: u32,
     pub hsion: u32,
     pub hsidiv: u32,
 }
 
-// The chip as the rules see it: whether there are three PLLs, the permissions, the scale, HSION and HSIDIV.
+// The chip as the rules see it: whether there are three PLLs, the permissions by PLL number, the scale, HSION and HSIDIV.
 pub struct ChipState {
     pub three: bool,
-    pub odd1: bool,
-    pub odd2: bool,
-    pub odd3: bool,
+    pub odd: [bool; 3],
     pub scale: Scale,
     pub hsion: bool,
     pub hsidiv: Hsidiv,
 }
 
-// The listed refusals, 1 to 24 in this order; specs/Document01/Refusals of crates/rules gives each its number.
+// The listed refusals, in the order of their numbers, which specs/Document01/Refusals of crates/rules gives them.
 pub enum Refusal {
     OutsideCodes,
     BankLength,
@@ -175,13 +165,46 @@ pub struct PllPlan {
     pub pll: Pll,
 }
 
-// A whole plan: the clocks reported in hertz, the numbers chosen for the fields, and the PLLs by their number.
-pub struct Plan {
+// A bus: its divisor and its clock in hertz.
+pub struct Bus {
+    pub pre: u32,
+    pub clock: u32,
+}
+
+// AHB and APB1 to 3.
+pub struct Buses {
+    pub ahb: Bus,
+    pub apb1: Bus,
+    pub apb2: Bus,
+    pub apb3: Bus,
+}
+
+// A clock output: its prescaler, and its clock where it has one.
+pub struct Mco {
+    pub pre: u32,
+    pub clock: Hertz,
+}
+
+pub struct Mcos {
+    pub mco1: Mco,
+    pub mco2: Mco,
+}
+
+// Flash wait states: LATENCY, and WRHIGHFREQ's delay.
+pub struct Waits {
+    pub latency: u32,
+    pub delay: u32,
+}
+
+// A selector's code and its clock.
+pub struct Selected {
+    pub sel: u32,
+    pub clock: u32,
+}
+
+// The clocks reported in hertz, beside those of the buses, the clock outputs and the PLLs.
+pub struct Clocks {
     pub sys: u32,
-    pub hclk: u32,
-    pub pclk1: u32,
-    pub pclk2: u32,
-    pub pclk3: u32,
     pub timx: u32,
     pub timy: u32,
     pub per: u32,
@@ -192,24 +215,27 @@ pub struct Plan {
     pub hse: Hertz,
     pub lse: Hertz,
     pub audio: Hertz,
-    pub mco1: Hertz,
-    pub mco2: Hertz,
-    pub three: bool,
-    pub plls: [PllPlan; 3],
+}
+
+// The codes of the selectors: the PLLs' source, the system clock's, the peripheral clock's and the clock outputs'.
+pub struct Selectors {
     pub src: u32,
     pub sw: u32,
-    pub bypass: bool,
-    pub hpre: u32,
-    pub ppre1: u32,
-    pub ppre2: u32,
-    pub ppre3: u32,
     pub ckpersel: u32,
     pub mco1sel: u32,
-    pub mco1pre: u32,
     pub mco2sel: u32,
-    pub mco2pre: u32,
-    pub latency: u32,
-    pub delay: u32,
+}
+
+// A whole plan, in parts. The PLLs stand by their number.
+pub struct Plan {
+    pub clocks: Clocks,
+    pub buses: Buses,
+    pub mcos: Mcos,
+    pub waits: Waits,
+    pub selectors: Selectors,
+    pub bypass: bool,
+    pub three: bool,
+    pub plls: [PllPlan; 3],
 }
 
 pub enum Answer {
@@ -221,6 +247,37 @@ pub enum Answer {
 pub struct Planned {
     pub answer: Answer,
     pub plan: Plan,
+}
+
+// What a step answers: its value, or the refusal. specs/Answers of crates/rules reads each as a result of the rules.
+pub enum PllAnswer {
+    Planned(Pll),
+    Refused(Refusal),
+}
+
+pub enum BusAnswer {
+    Divided(Bus),
+    Refused(Refusal),
+}
+
+pub enum BusesAnswer {
+    Divided(Buses),
+    Refused(Refusal),
+}
+
+pub enum InputAnswer {
+    Clock(u32),
+    Refused(Refusal),
+}
+
+pub enum McoAnswer {
+    Prescaled(Mco),
+    Refused(Refusal),
+}
+
+pub enum McosAnswer {
+    Prescaled(Mcos),
+    Refused(Refusal),
 }
 
 // What the search for the reference divider M finds.

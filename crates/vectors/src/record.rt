@@ -26,9 +26,7 @@ pub fn replay(fd: i32, k: u32, t: &mut [u64; 9]) {
 fn planned(fd: i32, length: u32) -> Planned {
     let chip = Chip {
         plls: byte(fd),
-        odd1: byte(fd),
-        odd2: byte(fd),
-        odd3: byte(fd),
+        odd: [byte(fd), byte(fd), byte(fd)],
         scale: byte(fd),
         hsion: byte(fd),
         hsidiv: byte(fd),
@@ -55,9 +53,9 @@ fn same(fd: i32, x: Planned, did: u32, entries: u32) -> bool {
     }
     let mut words = [0u32; 2304];
     let plan = x.plan;
-    report::store(plan, &mut words);
+    report::store_report(plan, &mut words);
     let clocks = wide(fd, &words);
-    listing::store(x, &mut words);
+    listing::store_list(x, &mut words);
     let list = narrow(fd, &words, entries);
     clocks && list
 }

@@ -54,8 +54,8 @@ timerDivisor t p =
 unfoldable pub divisorOf : (bank : List ℕ) → (k : ℕ) → ℕ
 divisorOf b k =
     cond (eqb k 0) 0
-    (cond (leb k 4) (word b (60 + k))
-    (cond (leb k 6) (timerDivisor (word b Fields.TIMPRE) (word b (57 + k)))
+    (cond (leb k 4) (word b (Fields.HPRE + (k - 1)))
+    (cond (leb k 6) (timerDivisor (word b Fields.TIMPRE) (word b (Fields.PPRE1 + (k - 5))))
     (cond (leb k 14) 0
     (cond (eqb k 15) (word b Fields.MCO1PRE)
     (cond (eqb k 16) (word b Fields.MCO2PRE) (cond (leb k 25) (word b (15 * ((k - 17) / 3) + 2 * ((k - 17) % 3) + Fields.P) + 1) 0))))))

@@ -2,6 +2,16 @@
 ghost use mathlib.Core.Path.{_≡_};
 ghost use Prim.Native.Nat.{_<_};
 ghost use Rattle.view.specs.View.{swClock, perClock, mco1Clock, mco2Clock, fromOf, timerDivisor, divisorOf};
+use fields::CKPERSEL;
+use fields::HPRE;
+use fields::MCO1PRE;
+use fields::MCO1SEL;
+use fields::MCO2PRE;
+use fields::MCO2SEL;
+use fields::P;
+use fields::PPRE1;
+use fields::SW;
+use fields::TIMPRE;
 use fields::word;
 
 fn sw_clock(code: u32) -> usize
@@ -59,7 +69,7 @@ pub fn from_of(bank: &[u32], k: usize) -> usize
     ensures { λ r. ⌜ r ≡ fromOf (now (bank .entry)) k ⌝ }
 {
     if k == 0 {
-        return sw_clock(word(bank, 67));
+        return sw_clock(word(bank, SW));
     }
     if k == 1 {
         return 0;
@@ -68,16 +78,16 @@ pub fn from_of(bank: &[u32], k: usize) -> usize
         return 1;
     }
     if k == 7 {
-        return per_clock(word(bank, 65));
+        return per_clock(word(bank, CKPERSEL));
     }
     if k <= 14 {
         return 29;
     }
     if k == 15 {
-        return mco1_clock(word(bank, 54));
+        return mco1_clock(word(bank, MCO1SEL));
     }
     if k == 16 {
-        return mco2_clock(word(bank, 56));
+        return mco2_clock(word(bank, MCO2SEL));
     }
     if k <= 25 {
         return 26 + (k - 17) / 3;
@@ -116,22 +126,22 @@ pub fn divisor_of(bank: &[u32], k: usize) -> u64
         return 0;
     }
     if k <= 4 {
-        return word(bank, 60 + k) as u64;
+        return word(bank, HPRE + (k - 1)) as u64;
     }
     if k <= 6 {
-        return timer_divisor(word(bank, 66), word(bank, 57 + k));
+        return timer_divisor(word(bank, TIMPRE), word(bank, PPRE1 + (k - 5)));
     }
     if k <= 14 {
         return 0;
     }
     if k == 15 {
-        return word(bank, 55) as u64;
+        return word(bank, MCO1PRE) as u64;
     }
     if k == 16 {
-        return word(bank, 57) as u64;
+        return word(bank, MCO2PRE) as u64;
     }
     if k <= 25 {
-        return word(bank, 15 * ((k - 17) / 3) + 2 * ((k - 17) % 3) + 6) as u64 + 1;
+        return word(bank, 15 * ((k - 17) / 3) + 2 * ((k - 17) % 3) + P) as u64 + 1;
     }
     0
 }

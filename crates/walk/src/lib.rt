@@ -1,7 +1,7 @@
 // The register walk: a plan's list one entry at a time, moved on in place by the values read. rcc.rs (freeze, its polling).
 ghost use mathlib.Core.Path.{_≡_};
 ghost use Rattle.rules.specs.Document01.Walk.{shownOf, steppedOf, freshOf};
-ghost use Rattle.rules.specs.Document01.Words.{shownCount, ran};
+ghost use Rattle.rules.specs.Words.{shownCount, ran};
 ghost use lib.ListN.{length};
 ghost use Rattle.walk.specs.Walk.{freshWalk, standOf, steppedWalk, markOf, markShown};
 use entries::EntryAt;
@@ -118,12 +118,9 @@ pub fn run(planned: Planned, reads: &[u32], shown: &mut [u32]) -> usize
     let n = words::shown_count(reads.len(), shown.len());
     let mut w = fresh(planned);
     for i in 0..n {
-        words::store(shown, 9 * i, words::shown_words(shows(w)));
-        w = stepped(
-            w,
-            words::read_at(reads, 2 * i),
-            words::read_at(reads, 2 * i + 1),
-        );
+        words::store_words(shown, 9 * i, words::shown_words(shows(w)));
+        let k = 2 * i;
+        w = stepped(w, fields::word(reads, k), fields::word(reads, k + 1));
     }
     n
 }

@@ -43,9 +43,7 @@ fn request(system: Hertz, pll2: PllRequest) -> Request {
 fn planned(q: Request, odd: bool) -> Planned {
     let c = ChipState {
         three: false,
-        odd1: odd,
-        odd2: odd,
-        odd3: odd,
+        odd: [odd; 3],
         scale: Scale::Scale0,
         hsion: true,
         hsidiv: Hsidiv::Div2,

@@ -5,7 +5,7 @@ use Prim.Native.Nat.{ℕ, zero, suc, _+_, _-_, _≤_, _<_}
 use native.Mathlib.Omega.{arith}
 use borrow.Author.Tests.{le-leb, lt-leb}
 use lib.ListN.{length, getD, set, length-set}
-use Rattle.rules.specs.Document01.Words.{nineAt, storedAt}
+use Rattle.rules.specs.Words.{nineAt, storedAt}
 
 module _ (b : List ℕ) (at : ℕ) (w : List ℕ) where
   pub no-room : length b < 9 → b ≡ storedAt b at w

@@ -2,7 +2,7 @@
 ghost use mathlib.Core.Path.{_≡_};
 ghost use lib.ListN.{getD};
 ghost use mathlib.Core.List.{[], _∷_};
-ghost use Rattle.rules.specs.Document01.Words.{fieldWord, entryWords, shownWords, storedAt, shownCount};
+ghost use Rattle.rules.specs.Words.{fieldWord, entryWords, shownWords, storedAt, shownCount};
 use types::Entry;
 use types::Shown;
 
@@ -67,7 +67,7 @@ pub fn shown_words(s: Shown) -> [u32; 9]
 }
 
 // Nine words from a place on, where they fit.
-pub fn store(out: &mut [u32], at: usize, words: [u32; 9])
+pub fn store_words(out: &mut [u32], at: usize, words: [u32; 9])
     ensures { λ r. ⌜ now (out .exit) ≡ storedAt (now (out .entry)) at words ⌝ }
 {
     let n = out.len();
@@ -89,15 +89,4 @@ pub fn shown_count(reads: usize, room: usize) -> usize
     let steps = reads / 2 + 1;
     let held = room / 9;
     if held < steps { held } else { steps }
-}
-
-// A value of a slice; 0 past its end.
-pub fn read_at(reads: &[u32], k: usize) -> u32
-    ensures { λ r. ⌜ r ≡ getD (now (reads .entry)) k 0 ⌝ }
-{
-    if k < reads.len() {
-        let v = reads[k];
-        return v;
-    }
-    0
 }

@@ -1,6 +1,5 @@
 -- `ask::is_bytes` meets its contract.
 use borrow.Author.Tests.{eq-eqb, ne-eqb}
-use Prim.Native.Nat.{_-_}
 use Rattle.ask.proofs.is_bytes.Statement.{statement}
 use Rattle.ask.proofs.is_bytes.Tie as tie
 

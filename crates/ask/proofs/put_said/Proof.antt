@@ -1,7 +1,6 @@
 -- `ask::put_said` meets its contract.
 use mathlib.Core.Path.{sym}
 use native.Mathlib.Omega.{arith}
-use Prim.Native.Nat.{_-_}
 use lib.Seq.{length-take-le}
 use borrow.Author.Needs.{needs}
 use Rattle.ask.proofs.put_said.Statement.{statement}
@@ -16,13 +15,5 @@ slice-aggregate-store c = sym (length-take-le (c .before .before .before .before
 store-requires : tie.Need-store-requires
 store-requires c κs = let p = c .before .before .before .before .pre in omega (arith, p .1, length-take-le (c .before .before .before .before .args .s .count) (c .before .before .before .before .args .s .bytes) (p .0))
 
-same-length : tie.Need-same-length
-same-length c = search needs
-
-returns : tie.Need-returns
-returns c = search needs
-
 pub put-said-spec : {M : Type 1} → statement M
-put-said-spec =
-    tie.close
-    (tie.spec array-share-prefix-bytes slice-aggregate-store store-requires same-length returns)
+put-said-spec = tie.close (tie.spec array-share-prefix-bytes slice-aggregate-store store-requires (λ c. search needs) (λ c. search needs))

@@ -19,18 +19,6 @@ loop-holds c = begins (now (c .before .before .args .bytes)) (now (c .before .be
 add-put : tie.Need-add-put Inv-loop μ-loop
 add-put c = let p = c .before .before .before .before .before .pre in record { fits = omega arith }
 
-shared-slice-read-put : tie.Need-shared-slice-read-put Inv-loop μ-loop
-shared-slice-read-put c = search needs
-
-put-requires : tie.Need-put-requires Inv-loop μ-loop
-put-requires c κs = tt
-
-add-i : tie.Need-add-i Inv-loop μ-loop
-add-i c = search needs
-
-loop-less : tie.Need-loop-less Inv-loop μ-loop
-loop-less c = search needs
-
 loop-again : tie.Need-loop-again Inv-loop μ-loop
 loop-again c = rw (c .before .before .put .ensures) (goes-on _ _ _ _ _ (c .before .before .before .before .before .before .loop .inv) (c .before .before .before .before .before .loop-test .taken))
 
@@ -42,16 +30,5 @@ returns c = ends _ _ _ _ _ (c .before .loop .inv) (c .loop-test .left)
 
 pub store-spec : {M : Type 1} → statement M
 store-spec =
-    tie.close
-    (tie.spec
-    Inv-loop
-    μ-loop
-    loop-holds
-    add-put
-    shared-slice-read-put
-    put-requires
-    add-i
-    loop-less
-    loop-again
-    same-length
-    returns)
+    tie.close (tie.spec Inv-loop μ-loop loop-holds add-put (λ c. search needs) (λ c κs. tt) (λ c. search needs) (λ c. search needs)
+    loop-again same-length returns)

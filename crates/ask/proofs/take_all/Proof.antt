@@ -17,20 +17,8 @@ abbrev μ-loop : tie.MeasureT-loop
 loop-holds : tie.Need-loop-holds Inv-loop μ-loop
 loop-holds c = begins (now (c .before .before .args .sheet)) (now (c .before .before .args .words))
 
-shared-slice-read-if1 : tie.Need-shared-slice-read-if1 Inv-loop μ-loop
-shared-slice-read-if1 c = search needs
-
-add-at : tie.Need-add-at Inv-loop μ-loop
-add-at c = search needs
-
-loop-less : tie.Need-loop-less Inv-loop μ-loop
-loop-less c = search needs
-
 loop-again : tie.Need-loop-again Inv-loop μ-loop
 loop-again c = passes _ _ _ _ (c .before .before .before .loop .inv) (c .before .before .loop-test .taken) (c .if1 .taken)
-
-end-of-requires : tie.Need-end-of-requires Inv-loop μ-loop
-end-of-requires c κs = tt
 
 sub-take : tie.Need-sub-take Inv-loop μ-loop
 sub-take c = let h = some _ _ _ _ (c .before .before .before .before .before .loop .inv) (c .before .before .before .before .loop-test .taken) (c .before .before .if1 .left) (c .before .end-of .ensures) in omega arith
@@ -40,9 +28,6 @@ part-take-start c = let h = some _ _ _ _ (c .before .before .before .before .bef
 
 part-take-end : tie.Need-part-take-end Inv-loop μ-loop
 part-take-end c = inside _ _ _ _ (c .before .before .before .before .before .loop .inv) (c .before .before .before .before .loop-test .taken) (c .before .before .if1 .left) (c .before .end-of .ensures)
-
-take-requires : tie.Need-take-requires Inv-loop μ-loop
-take-requires c κs = tt
 
 same-length : tie.Need-same-length Inv-loop μ-loop
 same-length c = same-still _ _ _ _ (c .before .before .before .before .before .before .before .before .before .before .loop .inv) (c .before .before .before .before .before .before .before .before .before .loop-test .taken) (c .before .before .before .before .before .before .before .if1 .left) (c .before .before .before .before .before .before .end-of .ensures) (c .before .before .before .take .ensures .0) (c .before .before .before .take .ensures .1)
@@ -64,23 +49,5 @@ returns-2 c = ends _ _ _ _ (c .before .loop .inv) (c .loop-test .left)
 
 pub take-all-spec : {M : Type 1} → statement M
 take-all-spec =
-    tie.close
-    (tie.spec
-    Inv-loop
-    μ-loop
-    loop-holds
-    shared-slice-read-if1
-    add-at
-    loop-less
-    loop-again
-    end-of-requires
-    sub-take
-    part-take-start
-    part-take-end
-    take-requires
-    same-length
-    returns
-    loop-less-2
-    loop-again-2
-    same-length-2
-    returns-2)
+    tie.close (tie.spec Inv-loop μ-loop loop-holds (λ c. search needs) (λ c. search needs) (λ c. search needs) loop-again (λ c κs. tt)
+    sub-take part-take-start part-take-end (λ c κs. tt) same-length returns loop-less-2 loop-again-2 same-length-2 returns-2)

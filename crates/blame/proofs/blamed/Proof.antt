@@ -1,7 +1,6 @@
 -- `blame::blamed` meets its contract.
 use mathlib.Core.Path.{_≡_, ap, _∙_}
 use Prim.Native.Nat.{_-_}
-use native.Mathlib.Omega.{arith}
 use borrow.Author.Needs.{needs}
 use Rattle.ask.specs.Sheet.{withoutKey}
 use Rattle.blame.proofs.Tried.{Tried, starts, found, goes-on, ends}
@@ -15,33 +14,12 @@ Inv-loop sheet number i₀ i = (number ≡ refusalOn sheet) × Tried (withoutOne
 abbrev μ-loop : tie.MeasureT-loop
 μ-loop sheet number i₀ i = 33 - i
 
-refusal-of-requires : tie.Need-refusal-of-requires Inv-loop μ-loop
-refusal-of-requires c κs = search needs
-
-start-for-requires : tie.Need-start-for-requires Inv-loop μ-loop
-start-for-requires c κs = search needs
-
 loop-holds : tie.Need-loop-holds Inv-loop μ-loop
 loop-holds c = (c .before .refusal-of .ensures, starts _ _ _ (c .start-for .ensures ∙ ap startFor (c .before .refusal-of .ensures)))
-
-key-at-requires : tie.Need-key-at-requires Inv-loop μ-loop
-key-at-requires c κs = search needs
-
-without-requires : tie.Need-without-requires Inv-loop μ-loop
-without-requires c κs = search needs
-
-refusal-of-requires-2 : tie.Need-refusal-of-requires-2 Inv-loop μ-loop
-refusal-of-requires-2 c κs = search needs
 
 returns : tie.Need-returns Inv-loop μ-loop
 unfolding blamedOf
 returns c = let l = c .before .before .before .before .before .loop in found _ _ _ (l .inv .0) (l .i) (l .inv .1) (c .before .before .before .before .loop-test .taken) _ _ _ (c .before .before .before .key-at .ensures) (c .before .before .without .ensures ∙ ap (withoutKey _) (c .before .before .before .key-at .ensures)) (c .before .refusal-of2 .ensures) (c .if1 .taken)
-
-add-i : tie.Need-add-i Inv-loop μ-loop
-add-i c = search needs
-
-loop-less : tie.Need-loop-less Inv-loop μ-loop
-loop-less c = search needs
 
 loop-again : tie.Need-loop-again Inv-loop μ-loop
 loop-again c = let l = c .before .before .before .before .before .loop in (l .inv .0, goes-on _ _ _ (l .inv .0) (l .i) (l .inv .1) (c .before .before .before .before .loop-test .taken) _ _ _ (c .before .before .before .key-at .ensures) (c .before .before .without .ensures ∙ ap (withoutKey _) (c .before .before .before .key-at .ensures)) (c .before .refusal-of2 .ensures) (c .if1 .left))
@@ -52,18 +30,5 @@ returns-2 c = ends _ _ (c .before .loop .i) (c .before .loop .inv .1) (c .loop-t
 
 pub blamed-spec : {M : Type 1} → statement M
 blamed-spec =
-    tie.close
-    (tie.spec
-    Inv-loop
-    μ-loop
-    refusal-of-requires
-    start-for-requires
-    loop-holds
-    key-at-requires
-    without-requires
-    refusal-of-requires-2
-    returns
-    add-i
-    loop-less
-    loop-again
-    returns-2)
+    tie.close (tie.spec Inv-loop μ-loop (λ c κs. search needs) (λ c κs. search needs) loop-holds (λ c κs. search needs)
+    (λ c κs. search needs) (λ c κs. search needs) returns (λ c. search needs) (λ c. search needs) loop-again returns-2)

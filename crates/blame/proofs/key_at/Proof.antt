@@ -5,15 +5,9 @@ use Rattle.text.proofs.Parts.{any-default}
 use Rattle.blame.proofs.key_at.Statement.{statement}
 use Rattle.blame.proofs.key_at.Tie as tie
 
-mul-result : tie.Need-mul-result
-mul-result c = search needs
-
-array-read-result : tie.Need-array-read-result
-array-read-result c = search needs
-
 returns : tie.Need-returns
 unfolding order
 returns c = any-default order (c .args .i) 0 33 (c .pre)
 
 pub key-at-spec : {M : Type 1} → statement M
-key-at-spec = tie.close (tie.spec mul-result array-read-result returns)
+key-at-spec = tie.close (tie.spec (λ c. search needs) (λ c. search needs) returns)

@@ -2,7 +2,6 @@
 use mathlib.Core.Path.{_≡_, ap, _∙_}
 use mathlib.Core.List.{List}
 use Prim.Native.Nat.{ℕ, _+_, _-_}
-use native.Mathlib.Omega.{arith}
 use borrow.Author.Needs.{needs}
 use Rattle.blame.proofs.Tried.{Tried, starts, found, goes-on, ends, whole, less}
 use Rattle.blame.specs.Blame.{startFor, refusalOn, withoutAll, lastBlamedOf}
@@ -19,33 +18,12 @@ Inv-loop number rest₀ i₀ rest i = (number ≡ refusalOn rest₀) × (rest �
 abbrev μ-loop : tie.MeasureT-loop
 μ-loop number rest₀ i₀ rest i = 33 - i
 
-refusal-of-requires : tie.Need-refusal-of-requires Inv-loop μ-loop
-refusal-of-requires c κs = search needs
-
-start-for-requires : tie.Need-start-for-requires Inv-loop μ-loop
-start-for-requires c κs = search needs
-
 loop-holds : tie.Need-loop-holds Inv-loop μ-loop
 loop-holds c = let e = c .start-for .ensures ∙ ap startFor (c .before .refusal-of .ensures) in (c .before .refusal-of .ensures, whole _ _ _ e, starts _ _ _ e)
-
-key-at-requires : tie.Need-key-at-requires Inv-loop μ-loop
-key-at-requires c κs = search needs
-
-without-requires : tie.Need-without-requires Inv-loop μ-loop
-without-requires c κs = search needs
-
-refusal-of-requires-2 : tie.Need-refusal-of-requires-2 Inv-loop μ-loop
-refusal-of-requires-2 c κs = search needs
 
 returns : tie.Need-returns Inv-loop μ-loop
 unfolding lastBlamedOf
 returns c = let l = c .before .before .before .before .before .loop in let u = less _ _ (l .i) _ _ _ (l .inv .2 .from) (l .inv .1) (c .before .before .before .key-at .ensures) (c .before .before .without .ensures) in found _ _ _ (l .inv .0) (l .i) (l .inv .2) (c .before .before .before .before .loop-test .taken) _ _ _ (c .before .before .before .key-at .ensures) u (c .before .refusal-of2 .ensures) (c .if1 .taken)
-
-add-i : tie.Need-add-i Inv-loop μ-loop
-add-i c = search needs
-
-loop-less : tie.Need-loop-less Inv-loop μ-loop
-loop-less c = search needs
 
 loop-again : tie.Need-loop-again Inv-loop μ-loop
 loop-again c = let l = c .before .before .before .before .before .loop in let u = less _ _ (l .i) _ _ _ (l .inv .2 .from) (l .inv .1) (c .before .before .before .key-at .ensures) (c .before .before .without .ensures) in (l .inv .0, u, goes-on _ _ _ (l .inv .0) (l .i) (l .inv .2) (c .before .before .before .before .loop-test .taken) _ _ _ (c .before .before .before .key-at .ensures) u (c .before .refusal-of2 .ensures) (c .if1 .left))
@@ -56,18 +34,5 @@ returns-2 c = ends _ _ (c .before .loop .i) (c .before .loop .inv .2) (c .loop-t
 
 pub last-blamed-spec : {M : Type 1} → statement M
 last-blamed-spec =
-    tie.close
-    (tie.spec
-    Inv-loop
-    μ-loop
-    refusal-of-requires
-    start-for-requires
-    loop-holds
-    key-at-requires
-    without-requires
-    refusal-of-requires-2
-    returns
-    add-i
-    loop-less
-    loop-again
-    returns-2)
+    tie.close (tie.spec Inv-loop μ-loop (λ c κs. search needs) (λ c κs. search needs) loop-holds (λ c κs. search needs)
+    (λ c κs. search needs) (λ c κs. search needs) returns (λ c. search needs) (λ c. search needs) loop-again returns-2)

@@ -5,25 +5,12 @@ use borrow.Author.Needs.{needs}
 use Rattle.sheet.proofs.Length.{request-is-long}
 use Rattle.blame.specs.Blame.{refusalOn}
 use Rattle.rules.specs.Document01.Refusals.{codeOf}
-use Rattle.rules.specs.Document01.Plan.{planOf}
 use Rattle.types.specs.declared.Planned.{Planned}
 use Rattle.blame.proofs.refusal_on.Statement.{statement}
 use Rattle.blame.proofs.refusal_on.Tie as tie
 
-request-length-requires : tie.Need-request-length-requires
-request-length-requires c κs = search needs
-
 slice-aggregate-plan : tie.Need-slice-aggregate-plan
 slice-aggregate-plan c = request-is-long (now (c .before .before .before .args .sheet)) _ (c .before .request-length .ensures)
-
-chip-requires : tie.Need-chip-requires
-chip-requires c κs = search needs
-
-plan-requires : tie.Need-plan-requires
-plan-requires c κs = search needs
-
-code-of-requires : tie.Need-code-of-requires
-code-of-requires c κs = search needs
 
 returns : tie.Need-returns
 unfolding refusalOn
@@ -31,11 +18,5 @@ returns c = c .code-of .ensures ∙ ap (λ (x : Planned). codeOf (x .answer)) (c
 
 pub refusal-on-spec : {M : Type 1} → statement M
 refusal-on-spec =
-    tie.close
-    (tie.spec
-    request-length-requires
-    slice-aggregate-plan
-    chip-requires
-    plan-requires
-    code-of-requires
+    tie.close (tie.spec (λ c κs. search needs) slice-aggregate-plan (λ c κs. search needs) (λ c κs. search needs) (λ c κs. search needs)
     returns)

@@ -6,35 +6,16 @@ use borrow.Author.Needs.{needs}
 use Rattle.clock_api.proofs.asked.Statement.{statement}
 use Rattle.clock_api.proofs.asked.Tie as tie
 
-refused-requires : tie.Need-refused-requires
-refused-requires c κs = search needs
-
 returns : tie.Need-returns
 returns c = c .refused .ensures ∙ no-chip _ _ _ (c .before .if1 .taken)
 
-refused-requires-2 : tie.Need-refused-requires-2
-refused-requires-2 c κs = search needs
-
 returns-2 : tie.Need-returns-2
 returns-2 c = c .refused2 .ensures ∙ no-fit _ _ _ (c .before .before .if1 .left) (not-true _ (c .before .if2 .taken))
-
-chip-from-requires : tie.Need-chip-from-requires
-chip-from-requires c κs = search needs
-
-plan-requires : tie.Need-plan-requires
-plan-requires c κs = search needs
 
 returns-3 : tie.Need-returns-3
 returns-3 c = c .plan .ensures .0 ∙ rw (c .before .chip-from .ensures) (there _ _ _ (c .before .before .before .if1 .left) (not-false _ (c .before .before .if2 .left)))
 
 pub asked-spec : {M : Type 1} → statement M
 asked-spec =
-    tie.close
-    (tie.spec
-    refused-requires
-    returns
-    refused-requires-2
-    returns-2
-    chip-from-requires
-    plan-requires
+    tie.close (tie.spec (λ c κs. search needs) returns (λ c κs. search needs) returns-2 (λ c κs. search needs) (λ c κs. search needs)
     returns-3)

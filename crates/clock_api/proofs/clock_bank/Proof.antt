@@ -8,22 +8,9 @@ use Rattle.clock_api.proofs.clock_bank.Tie as tie
 returns : tie.Need-returns
 returns c = bank-kept _ _ _ (now (c .before .before .before .before .args .bank)) (c .if1 .taken)
 
-chip-from-requires : tie.Need-chip-from-requires
-chip-from-requires c κs = search needs
-
-plan-bank-requires : tie.Need-plan-bank-requires
-plan-bank-requires c κs = search needs
-
-code-of-requires : tie.Need-code-of-requires
-code-of-requires c κs = search needs
-
-same-length : tie.Need-same-length
-same-length c = search needs
-
 returns-2 : tie.Need-returns-2
 returns-2 c = bank-done _ _ _ (now (c .before .before .before .before .before .before .before .before .before .before .args .bank)) (c .before .before .before .before .before .before .if1 .left) (c .before .before .before .before .before .chip-from .ensures) (c .before .before .before .plan-bank .ensures .0) (c .code-of .ensures) (c .before .before .before .plan-bank .ensures .1 .0)
 
 pub clock-bank-spec : {M : Type 1} → statement M
 clock-bank-spec =
-    tie.close
-    (tie.spec returns chip-from-requires plan-bank-requires code-of-requires same-length returns-2)
+    tie.close (tie.spec returns (λ c κs. search needs) (λ c κs. search needs) (λ c κs. search needs) (λ c. search needs) returns-2)

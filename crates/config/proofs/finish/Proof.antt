@@ -1,41 +1,29 @@
 -- `config::finish` meets its contract.
-use borrow.Author.Tests.{eq-eqb, ne-eqb}
-use Rattle.config.proofs.System.{five, six, settled}
-use borrow.Author.Tests.{not-true, not-false}
 use mathlib.Core.Path.{_∙_, sym}
+use mathlib.Core.Bool.{not}
+use lib.Dec.{eqb}
+use borrow.Author.Tests.{eq-eqb, ne-eqb}
+use Rattle.config.proofs.System.{unlike, alike, five, six, settled}
 use borrow.Author.Needs.{needs}
 use Rattle.config.proofs.finish.Statement.{statement}
 use Rattle.config.proofs.finish.Tie as tie
 
-agreed-requires : tie.Need-agreed-requires
-agreed-requires c κs = search needs
-
-refused-requires : tie.Need-refused-requires
-refused-requires c κs = search needs
-
 returns : tie.Need-returns
-returns c = c .refused .ensures ∙ sym (five _ _ _ _ (sym (c .before .before .agreed .ensures) ∙ not-true _ (c .before .if1 .taken)))
-
-refused-requires-2 : tie.Need-refused-requires-2
-refused-requires-2 c κs = search needs
+returns c =
+    let x = c .before .before .before .args in
+    c .refused .ensures ∙ sym (five (x .source) (x .system) (x .pll1) (x .pll2) (x .pll3) (rw (← c .before .before .like .ensures) (unlike (not (eqb (x .system) (x .source))) (c .before .before .like .result) (c .before .if1 .taken))))
 
 returns-2 : tie.Need-returns-2
-returns-2 c = c .refused2 .ensures ∙ sym (six _ _ _ _ (sym (c .before .before .before .agreed .ensures) ∙ not-false _ (c .before .before .if1 .left)) (eq-eqb _ _ (c .before .if2 .taken)))
-
-with-p-requires : tie.Need-with-p-requires
-with-p-requires c κs = search needs
+returns-2 c =
+    let x = c .before .before .before .before .args in
+    c .refused2 .ensures ∙ sym (six (x .source) (x .system) (x .pll1) (x .pll2) (x .pll3) (rw (← c .before .before .before .like .ensures) (alike (not (eqb (x .system) (x .source))) (c .before .before .before .like .result) (c .before .before .if1 .left))) (eq-eqb _ _ (c .before .if2 .taken)))
 
 returns-3 : tie.Need-returns-3
-returns-3 c = rw (c .with-p .ensures) (sym (settled _ _ _ _ (sym (c .before .before .before .agreed .ensures) ∙ not-false _ (c .before .before .if1 .left)) (ne-eqb _ _ (c .before .if2 .left))))
+returns-3 c =
+    let x = c .before .before .before .before .args in
+    rw (c .with-p .ensures) (sym (settled (x .source) (x .system) (x .pll1) (x .pll2) (x .pll3) (rw (← c .before .before .before .like .ensures) (alike (not (eqb (x .system) (x .source))) (c .before .before .before .like .result) (c .before .before .if1 .left))) (ne-eqb _ _ (c .before .if2 .left))))
 
 pub finish-spec : {M : Type 1} → statement M
 finish-spec =
-    tie.close
-    (tie.spec
-    agreed-requires
-    refused-requires
-    returns
-    refused-requires-2
-    returns-2
-    with-p-requires
+    tie.close (tie.spec (λ c κs. search needs) (λ c κs. search needs) returns (λ c κs. search needs) returns-2 (λ c κs. search needs)
     returns-3)

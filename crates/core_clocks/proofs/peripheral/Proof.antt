@@ -4,15 +4,6 @@ use borrow.Author.Needs.{needs}
 use Rattle.core_clocks.proofs.peripheral.Statement.{statement}
 use Rattle.core_clocks.proofs.peripheral.Tie as tie
 
-enum-told : tie.Need-enum-told
-enum-told c = search needs
-
-enum-known-requested : tie.Need-enum-known-requested
-enum-known-requested c = search needs
-
-of-peripheral-requires : tie.Need-of-peripheral-requires
-of-peripheral-requires c κs = search needs
-
 returns : tie.Need-returns
 unfolding peripheralOf
 returns c = rw (c .enum-told .given .1)
@@ -21,5 +12,4 @@ returns-2 : tie.Need-returns-2
 returns-2 c = rw (c .before .before .requested .given .1) (c .of-peripheral .ensures)
 
 pub peripheral-spec : {M : Type 1} → statement M
-peripheral-spec =
-    tie.close (tie.spec enum-told enum-known-requested of-peripheral-requires returns returns-2)
+peripheral-spec = tie.close (tie.spec (λ c. search needs) (λ c. search needs) (λ c κs. search needs) returns returns-2)

@@ -4,15 +4,6 @@ use Rattle.rules.specs.Document01.Entries.{entriesOf}
 use Rattle.entries.proofs.entry_at.Statement.{statement}
 use Rattle.entries.proofs.entry_at.Tie as tie
 
-enum-told : tie.Need-enum-told
-enum-told c = search needs
-
-plan-at-requires : tie.Need-plan-at-requires
-plan-at-requires c κs = search needs
-
-enum-told-2 : tie.Need-enum-told-2
-enum-told-2 c = search needs
-
 returns : tie.Need-returns
 unfolding entriesOf
 returns c = rw (c .before .enum-told .given .1) (c .plan-at .ensures)
@@ -22,4 +13,4 @@ unfolding entriesOf
 returns-2 c = rw (c .enum-told2 .given .1)
 
 pub entry-at-spec : {M : Type 1} → statement M
-entry-at-spec = tie.close (tie.spec enum-told plan-at-requires enum-told-2 returns returns-2)
+entry-at-spec = tie.close (tie.spec (λ c. search needs) (λ c κs. search needs) (λ c. search needs) returns returns-2)

@@ -3,18 +3,13 @@ use mathlib.Core.List.{_++_}
 use mathlib.Core.Path.{refl, _∙_}
 use Prim.Native.Nat.{_-_}
 use borrow.Author.Needs.{needs}
-use Rattle.fields.specs.Segments.{setups, afterClocks}
+use Rattle.rules.specs.Document01.Entries.{setups, clockEntries}
 use Rattle.entries.proofs.Counted.{setups-length}
-use Rattle.fields.proofs.Whole.{clocksIn, parts}
+use Rattle.entries.specs.Place.{afterClocks}
+use Rattle.entries.proofs.Whole.{clocksIn, parts}
 use Rattle.entries.proofs.Placed.{first-at, later-at}
 use Rattle.entries.proofs.plan_at.Statement.{statement}
 use Rattle.entries.proofs.plan_at.Tie as tie
-
-setups-requires : tie.Need-setups-requires
-setups-requires c κs = search needs
-
-setups-at-requires : tie.Need-setups-at-requires
-setups-at-requires c κs = search needs
 
 returns : tie.Need-returns
 returns c =
@@ -24,10 +19,8 @@ returns c =
     rw (parts p) (first-at (setups (p .plls)) (clocksIn p ++ afterClocks p) (a .result) k (a .ensures .0 ∙ setups-length (p .plls)) (c .before .if1 .taken)
     (c .setups-at .ensures))
 
-clock-at-requires : tie.Need-clock-at-requires
-clock-at-requires c κs = search needs
-
 returns-2 : tie.Need-returns-2
+unfolding clockEntries
 returns-2 c =
     let p = c .before .before .before .before .before .args .plan in
     let k = c .before .before .before .before .before .args .k in
@@ -37,10 +30,8 @@ returns-2 c =
     (first-at (clocksIn p) (afterClocks p) 9 l refl (c .before .if2 .taken)
     (c .clock-at .ensures)))
 
-after-clocks-requires : tie.Need-after-clocks-requires
-after-clocks-requires c κs = search needs
-
 returns-3 : tie.Need-returns-3
+unfolding clockEntries
 returns-3 c =
     let p = c .before .before .before .before .before .args .plan in
     let k = c .before .before .before .before .before .args .k in
@@ -52,12 +43,5 @@ returns-3 c =
 
 pub plan-at-spec : {M : Type 1} → statement M
 plan-at-spec =
-    tie.close
-    (tie.spec
-    setups-requires
-    setups-at-requires
-    returns
-    clock-at-requires
-    returns-2
-    after-clocks-requires
+    tie.close (tie.spec (λ c κs. search needs) (λ c κs. search needs) returns (λ c κs. search needs) returns-2 (λ c κs. search needs)
     returns-3)

@@ -10,93 +10,6 @@ use borrow.Author.Needs.{needs}
 use Rattle.exact.proofs.clock_reading.Statement.{statement}
 use Rattle.exact.proofs.clock_reading.Tie as tie
 
-sys-requires : tie.Need-sys-requires
-sys-requires c κs = search needs
-
-ahb-requires : tie.Need-ahb-requires
-ahb-requires c κs = search needs
-
-ahb-requires-2 : tie.Need-ahb-requires-2
-ahb-requires-2 c κs = search needs
-
-divided-requires : tie.Need-divided-requires
-divided-requires c κs = search needs
-
-ahb-requires-3 : tie.Need-ahb-requires-3
-ahb-requires-3 c κs = search needs
-
-divided-requires-2 : tie.Need-divided-requires-2
-divided-requires-2 c κs = search needs
-
-ahb-requires-4 : tie.Need-ahb-requires-4
-ahb-requires-4 c κs = search needs
-
-divided-requires-3 : tie.Need-divided-requires-3
-divided-requires-3 c κs = search needs
-
-timer-requires : tie.Need-timer-requires
-timer-requires c κs = search needs
-
-timer-requires-2 : tie.Need-timer-requires-2
-timer-requires-2 c κs = search needs
-
-per-requires : tie.Need-per-requires
-per-requires c κs = search needs
-
-hsi-requires : tie.Need-hsi-requires
-hsi-requires c κs = search needs
-
-fixed-requires : tie.Need-fixed-requires
-fixed-requires c κs = search needs
-
-fixed-requires-2 : tie.Need-fixed-requires-2
-fixed-requires-2 c κs = search needs
-
-fixed-requires-3 : tie.Need-fixed-requires-3
-fixed-requires-3 c κs = search needs
-
-hse-requires : tie.Need-hse-requires
-hse-requires c κs = search needs
-
-mco1-source-requires : tie.Need-mco1-source-requires
-mco1-source-requires c κs = search needs
-
-divided-requires-4 : tie.Need-divided-requires-4
-divided-requires-4 c κs = search needs
-
-mco2-source-requires : tie.Need-mco2-source-requires
-mco2-source-requires c κs = search needs
-
-divided-requires-5 : tie.Need-divided-requires-5
-divided-requires-5 c κs = search needs
-
-output-requires : tie.Need-output-requires
-output-requires c κs = search needs
-
-output-requires-2 : tie.Need-output-requires-2
-output-requires-2 c κs = search needs
-
-output-requires-3 : tie.Need-output-requires-3
-output-requires-3 c κs = search needs
-
-output-requires-4 : tie.Need-output-requires-4
-output-requires-4 c κs = search needs
-
-output-requires-5 : tie.Need-output-requires-5
-output-requires-5 c κs = search needs
-
-output-requires-6 : tie.Need-output-requires-6
-output-requires-6 c κs = search needs
-
-output-requires-7 : tie.Need-output-requires-7
-output-requires-7 c κs = search needs
-
-output-requires-8 : tie.Need-output-requires-8
-output-requires-8 c κs = search needs
-
-output-requires-9 : tie.Need-output-requires-9
-output-requires-9 c κs = search needs
-
 returns : tie.Need-returns
 unfolding clocksBy pathOf
 returns c = rw (c .before .match .keys1) (c .sys .ensures)
@@ -219,61 +132,11 @@ returns-27 c =
 
 pub clock-reading-spec : {M : Type 1} → statement M
 clock-reading-spec =
-    tie.close
-    (tie.spec
-    sys-requires
-    ahb-requires
-    ahb-requires-2
-    divided-requires
-    ahb-requires-3
-    divided-requires-2
-    ahb-requires-4
-    divided-requires-3
-    timer-requires
-    timer-requires-2
-    per-requires
-    hsi-requires
-    fixed-requires
-    fixed-requires-2
-    fixed-requires-3
-    hse-requires
-    mco1-source-requires
-    divided-requires-4
-    mco2-source-requires
-    divided-requires-5
-    output-requires
-    output-requires-2
-    output-requires-3
-    output-requires-4
-    output-requires-5
-    output-requires-6
-    output-requires-7
-    output-requires-8
-    output-requires-9
-    returns
-    returns-2
-    returns-3
-    returns-4
-    returns-5
-    returns-6
-    returns-7
-    returns-8
-    returns-9
-    returns-10
-    returns-11
-    returns-12
-    returns-13
-    returns-14
-    returns-15
-    returns-16
-    returns-17
-    returns-18
-    returns-19
-    returns-20
-    returns-21
-    returns-22
-    returns-23
-    returns-24
-    returns-25
-    returns-26
-    returns-27)
+    tie.close (tie.spec (λ c κs. search needs) (λ c κs. search needs) (λ c κs. search needs) (λ c κs. search needs) (λ c κs. search needs)
+    (λ c κs. search needs) (λ c κs. search needs) (λ c κs. search needs) (λ c κs. search needs) (λ c κs. search needs)
+    (λ c κs. search needs) (λ c κs. search needs) (λ c κs. search needs) (λ c κs. search needs) (λ c κs. search needs)
+    (λ c κs. search needs) (λ c κs. search needs) (λ c κs. search needs) (λ c κs. search needs) (λ c κs. search needs)
+    (λ c κs. search needs) (λ c κs. search needs) (λ c κs. search needs) (λ c κs. search needs) (λ c κs. search needs)
+    (λ c κs. search needs) (λ c κs. search needs) (λ c κs. search needs) (λ c κs. search needs) returns returns-2 returns-3 returns-4
+    returns-5 returns-6 returns-7 returns-8 returns-9 returns-10 returns-11 returns-12 returns-13 returns-14 returns-15 returns-16
+    returns-17 returns-18 returns-19 returns-20 returns-21 returns-22 returns-23 returns-24 returns-25 returns-26 returns-27)

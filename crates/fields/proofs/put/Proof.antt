@@ -5,20 +5,8 @@ use borrow.Author.Needs.{needs}
 use Rattle.fields.proofs.put.Statement.{statement}
 use Rattle.fields.proofs.put.Tie as tie
 
-mul-bank : tie.Need-mul-bank
-mul-bank c = search needs
-
-slice-write-bank : tie.Need-slice-write-bank
-slice-write-bank c = search needs
-
-same-length : tie.Need-same-length
-same-length c = search needs
-
-returns : tie.Need-returns
-returns c = search needs
-
 returns-2 : tie.Need-returns-2
 returns-2 c = sym (set-out _ _ _ (c .if1 .left))
 
 pub put-spec : {M : Type 1} → statement M
-put-spec = tie.close (tie.spec mul-bank slice-write-bank same-length returns returns-2)
+put-spec = tie.close (tie.spec (λ c. search needs) (λ c. search needs) (λ c. search needs) (λ c. search needs) returns-2)

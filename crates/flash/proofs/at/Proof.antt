@@ -6,16 +6,10 @@ use Rattle.flash.proofs.Table.{at-place}
 use Rattle.flash.proofs.at.Statement.{statement}
 use Rattle.flash.proofs.at.Tie as tie
 
-add-result : tie.Need-add-result
-add-result c = omega arith
-
-array-read-result : tie.Need-array-read-result
-array-read-result c = omega arith
-
 -- `rw` finds the list in the goal and computes the test
 returns : tie.Need-returns
 unfolding atColumn placed
 returns c = let h = c .pre in rw (at-place placed 1008)
 
 pub at-spec : {M : Type 1} → statement M
-at-spec = tie.close (tie.spec add-result array-read-result returns)
+at-spec = tie.close (tie.spec (λ c. omega arith) (λ c. omega arith) returns)

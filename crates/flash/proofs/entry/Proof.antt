@@ -16,33 +16,6 @@ at-row s k i e h =
     let column : i % 252 ≡ k = omega arith in
     rw (row, column)
 
-cast-k : tie.Need-cast-k
-cast-k c = omega arith
-
-enum-told : tie.Need-enum-told
-enum-told c = search needs
-
-at-requires : tie.Need-at-requires
-at-requires c κs = omega arith
-
-enum-told-2 : tie.Need-enum-told-2
-enum-told-2 c = search needs
-
-at-requires-2 : tie.Need-at-requires-2
-at-requires-2 c κs = omega arith
-
-enum-told-3 : tie.Need-enum-told-3
-enum-told-3 c = search needs
-
-at-requires-3 : tie.Need-at-requires-3
-at-requires-3 c κs = omega arith
-
-enum-told-4 : tie.Need-enum-told-4
-enum-told-4 c = search needs
-
-at-requires-4 : tie.Need-at-requires-4
-at-requires-4 c κs = omega arith
-
 returns : tie.Need-returns
 returns c = let k = c .before .before .before .args .column in rw (c .before .enum-told .given .1) (c .at .ensures ∙ at-row 0 k (0 + k) (omega arith) (omega arith))
 
@@ -56,4 +29,6 @@ returns-4 : tie.Need-returns-4
 returns-4 c = let k = c .before .before .before .args .column in rw (c .before .enum-told4 .given .1) (c .at4 .ensures ∙ at-row 3 k (756 + k) (omega arith) (omega arith))
 
 pub entry-spec : {M : Type 1} → statement M
-entry-spec = tie.close (tie.spec cast-k enum-told at-requires enum-told-2 at-requires-2 enum-told-3 at-requires-3 enum-told-4 at-requires-4 returns returns-2 returns-3 returns-4)
+entry-spec =
+    tie.close (tie.spec (λ c. omega arith) (λ c. search needs) (λ c κs. omega arith) (λ c. search needs) (λ c κs. omega arith)
+    (λ c. search needs) (λ c κs. omega arith) (λ c. search needs) (λ c κs. omega arith) returns returns-2 returns-3 returns-4)

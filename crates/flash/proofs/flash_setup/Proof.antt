@@ -9,15 +9,6 @@ use Rattle.flash.proofs.Small.{small}
 use Rattle.flash.proofs.flash_setup.Statement.{statement}
 use Rattle.flash.proofs.flash_setup.Tie as tie
 
-column-requires : tie.Need-column-requires
-column-requires c κs = search needs
-
-entry-requires : tie.Need-entry-requires
-entry-requires c κs = search needs
-
-cast-e : tie.Need-cast-e
-cast-e c = search needs
-
 returns : tie.Need-returns
 unfolding flashOf
 returns c =
@@ -30,4 +21,4 @@ returns c =
     rw (latency, delay)
 
 pub flash-setup-spec : {M : Type 1} → statement M
-flash-setup-spec = tie.close (tie.spec column-requires entry-requires cast-e returns)
+flash-setup-spec = tie.close (tie.spec (λ c κs. search needs) (λ c κs. search needs) (λ c. search needs) returns)

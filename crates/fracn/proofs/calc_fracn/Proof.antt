@@ -1,7 +1,7 @@
 -- `fracn::calc_fracn` meets its contract: each way is a lemma of `Accept` at the value that is tested.
 use mathlib.Core.Path.{_≡_, sym, ap, _∙_, subst}
 use Prim.Native.Nat.{ℕ, _<_, _^_}
-use lib.Ieee.{Float, ofBits, ofInt, toUnsigned}
+use lib.Ieee.{Float, ofBits, ofInt}
 use lib.Ieee.Casts.{toUnsigned-lt}
 use Rattle.types.specs.declared.Fracn.{Fracn}
 use Rattle.ieee754.specs.Steps.{fracnOf, fracnFloat}

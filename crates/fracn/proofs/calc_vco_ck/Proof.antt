@@ -2,25 +2,12 @@
 use mathlib.Core.Path.{_≡_, refl, _∙_, ap}
 use borrow.Author.Needs.{needs}
 use lib.Ieee.{Float, ofBits, ofInt, toUnsigned, binary32, mul, add, div}
-use lib.IntN.{pos}
 use lib.Dec.{lit≤}
 use native.Mathlib.Nat.{lt-of-lt-of-le}
 use Rattle.ieee754.proofs.Same.{vco-same}
 use Rattle.ieee754.specs.Steps.{vcoOf, float}
 use Rattle.fracn.proofs.calc_vco_ck.Statement.{statement}
 use Rattle.fracn.proofs.calc_vco_ck.Tie as tie
-
-to-f32-requires : tie.Need-to-f32-requires
-to-f32-requires c κs = search needs
-
-to-f32-requires-2 : tie.Need-to-f32-requires-2
-to-f32-requires-2 c κs = search needs
-
-int-to-float-cut-u32 : tie.Need-int-to-float-cut-u32
-int-to-float-cut-u32 c = search needs
-
-cut-u32-requires : tie.Need-cut-u32-requires
-cut-u32-requires c κs = search needs
 
 -- 8192.0 by its bit pattern, as MIR has it
 eight : ofBits binary32 0x46000000 ≡ float 8192
@@ -45,4 +32,4 @@ returns c = (
 )
 
 pub calc-vco-ck-spec : {M : Type 1} → statement M
-calc-vco-ck-spec = tie.close (tie.spec to-f32-requires to-f32-requires-2 int-to-float-cut-u32 cut-u32-requires returns)
+calc-vco-ck-spec = tie.close (tie.spec (λ c κs. search needs) (λ c κs. search needs) (λ c. search needs) (λ c κs. search needs) returns)

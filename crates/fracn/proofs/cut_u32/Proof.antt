@@ -1,10 +1,9 @@
 -- `fracn::cut_u32` meets its contract: each way is a lemma of `Cut`.
-use mathlib.Core.Path.{_≡_, refl, sym, ap, _∙_, subst}
+use mathlib.Core.Path.{_≡_, sym, _∙_, subst}
 use Prim.Native.Nat.{ℕ, _<_, _^_}
 use lib.Dec.{T, lit≤}
 use lib.Ieee.{ofBits, neg, toUnsigned}
 use lib.Ieee.Casts.{toUnsigned-lt}
-use borrow.Author.Needs.{needs}
 use Rattle.ieee754.proofs.Cut.{cut-low, cut-high, cut-in, lt-wider}
 use Rattle.fracn.proofs.cut_u32.Statement.{statement}
 use Rattle.fracn.proofs.cut_u32.Tie as tie
@@ -33,5 +32,4 @@ unfolding ofBits neg
 returns-3 c = sym (cut-low 32 (c .before .args .x) (c .if1 .left))
 
 pub cut-u32-spec : {M : Type 1} → statement M
-cut-u32-spec =
-    tie.close (tie.spec truncating-f32-to-u64-requires cast-result returns returns-2 returns-3)
+cut-u32-spec = tie.close (tie.spec truncating-f32-to-u64-requires cast-result returns returns-2 returns-3)

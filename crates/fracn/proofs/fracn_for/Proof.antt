@@ -1,26 +1,10 @@
 -- `fracn::fracn_for` meets its contract.
-use mathlib.Core.Path.{_≡_, refl, _∙_, ap}
+use mathlib.Core.Path.{_≡_, _∙_}
 use borrow.Author.Needs.{needs}
-use lib.Ieee.{Float}
 use Rattle.ieee754.specs.Steps.{float, fracnOf}
 use Rattle.ieee754.proofs.Zero.{fracn-always}
 use Rattle.fracn.proofs.fracn_for.Statement.{statement}
 use Rattle.fracn.proofs.fracn_for.Tie as tie
-
-to-f32-requires : tie.Need-to-f32-requires
-to-f32-requires c κs = search needs
-
-to-f32-requires-2 : tie.Need-to-f32-requires-2
-to-f32-requires-2 c κs = search needs
-
-to-f32-requires-3 : tie.Need-to-f32-requires-3
-to-f32-requires-3 c κs = search needs
-
-to-f32-requires-4 : tie.Need-to-f32-requires-4
-to-f32-requires-4 c κs = search needs
-
-calc-fracn-requires : tie.Need-calc-fracn-requires
-calc-fracn-requires c κs = search needs
 
 steps : (c : tie.After-calc-fracn) → c .calc-fracn .result ≡ fracnOf (float (c .before .before .before .before .before .args .reference)) (float (c .before .before .before .before .before .args .n)) (float (c .before .before .before .before .before .args .divider)) (float (c .before .before .before .before .before .args .output))
 steps c = rw (c .calc-fracn .ensures .0, c .before .to-f324 .ensures, c .before .before .to-f323 .ensures, c .before .before .before .to-f322 .ensures, c .before .before .before .before .to-f32 .ensures)
@@ -31,4 +15,6 @@ returns c =
     (steps c, steps c ∙ fracn-always (s .args .reference) (s .args .n) (s .args .divider) (s .args .output) (s .fits .reference .fits) (s .fits .n .fits) (s .fits .divider .fits) (s .fits .output .fits))
 
 pub fracn-for-spec : {M : Type 1} → statement M
-fracn-for-spec = tie.close (tie.spec to-f32-requires to-f32-requires-2 to-f32-requires-3 to-f32-requires-4 calc-fracn-requires returns)
+fracn-for-spec =
+    tie.close (tie.spec (λ c κs. search needs) (λ c κs. search needs) (λ c κs. search needs) (λ c κs. search needs) (λ c κs. search needs)
+    returns)

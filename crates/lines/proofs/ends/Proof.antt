@@ -23,14 +23,8 @@ returns c = rw (eq-eqb (c .before .args .i % 30) 29 (c .if1 .taken))
 returns-2 : tie.Need-returns-2
 returns-2 c = rw (ne-eqb (c .before .before .args .i % 30) 29 (c .before .if1 .left), c .if2 .taken, ne-eqb (c .before .before .args .i + 1) 0 (omega arith))
 
-sub-same : tie.Need-sub-same
-sub-same c = search needs
-
-same-requires : tie.Need-same-requires
-same-requires c κs = search needs
-
 returns-3 : tie.Need-returns-3
 returns-3 c = rw (ne-eqb (c .before .before .before .args .i % 30) 29 (c .before .before .if1 .left), c .same .ensures, last (c .before .before .before .args .i) _ (c .before .if2 .left))
 
 pub ends-spec : {M : Type 1} → statement M
-ends-spec = tie.close (tie.spec returns returns-2 sub-same same-requires returns-3)
+ends-spec = tie.close (tie.spec returns returns-2 (λ c. search needs) (λ c κs. search needs) returns-3)

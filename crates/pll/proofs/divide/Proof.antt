@@ -2,7 +2,6 @@
 use Rattle.pll.proofs.Divided.{starts, searched, outside, no-m, above, settles, rest}
 use Rattle.pll.specs.Settle.{settledFor}
 use Rattle.pll.specs.Search.{lowOf, highOf}
-use Rattle.pll.specs.Answer.{pllAnswer}
 use Rattle.pll.specs.declared.vco.VcoRange.{VcoRange}
 use Rattle.types.specs.declared.FoundM.the-variants.{M}
 use Rattle.rules.specs.Document01.OnePll.{rangeOf, running}
@@ -40,9 +39,6 @@ from-start c =
     let l = c .if1 .left in
     omega arith
 
-range-of-requires : tie.Need-range-of-requires
-range-of-requires c κs = search needs
-
 target-of-requires : tie.Need-target-of-requires
 target-of-requires c κs = starts _ _ _ _ _ (c .before .pre)
 
@@ -57,15 +53,9 @@ search-m-requires c κs = let t = target-is (c .before .before) in
     let k = searched _ _ _ _ _ (c .before .before .before .before .pre) in
     (k .0, omega arith)
 
-enum-told : tie.Need-enum-told
-enum-told c = search needs
-
 returns-2 : tie.Need-returns-2
 returns-2 c = let e = c .before .before in
     no-m _ _ _ _ _ (start e .pre) (from-start (e .before)) (sym (found-is e) ∙ c .enum-told .given .1)
-
-enum-known-m : tie.Need-enum-known-m
-enum-known-m c = search needs
 
 div-settle : tie.Need-div-settle
 div-settle c = let e = c .before .before .before in
@@ -83,21 +73,11 @@ returns-3 c = let k = c .before .before in
     let m = k .m .given .0 .0 in
     let v = ap (λ (x : VcoRange). x .vcosel) (e .before .before .before .before .range-of .ensures) in
     c .settle .ensures
-    ∙ ap (λ (x : ℕ). pllAnswer (running (settledFor (a .odd) (a .request) x (e .before .before .before .target-of .result) m (a .source / m)))) v
-    ∙ ap (λ (x : ℕ). pllAnswer (running (settledFor (a .odd) (a .request) (rangeOf (a .most) .vcosel) x m (a .source / m)))) (target-is (e .before .before .before))
+    ∙ ap (λ (x : ℕ). running (settledFor (a .odd) (a .request) x (e .before .before .before .target-of .result) m (a .source / m))) v
+    ∙ ap (λ (x : ℕ). running (settledFor (a .odd) (a .request) (rangeOf (a .most) .vcosel) x m (a .source / m))) (target-is (e .before .before .before))
     ∙ rest _ _ _ _ _ (s .pre) (from-start (e .before)) _ (sym (found-is e) ∙ k .m .given .1)
 
 pub divide-spec : {M : Type 1} → statement M
 divide-spec =
-    tie.close
-    (tie.spec
-    range-of-requires
-    target-of-requires
-    returns
-    search-m-requires
-    enum-told
-    returns-2
-    enum-known-m
-    div-settle
-    settle-requires
-    returns-3)
+    tie.close (tie.spec (λ c κs. search needs) target-of-requires returns search-m-requires (λ c. search needs) returns-2
+    (λ c. search needs) div-settle settle-requires returns-3)

@@ -12,9 +12,6 @@ returns : tie.Need-returns
 unfolding onePllOf
 returns c = rw (eq-eqb _ 0 (c .if1 .taken))
 
-none-zero-requires : tie.Need-none-zero-requires
-none-zero-requires c κs = search needs
-
 returns-2 : tie.Need-returns-2
 unfolding onePllOf
 returns-2 c = let z = sym (c .before .none-zero .ensures) ∙ not-true _ (c .if2 .taken) in
@@ -28,5 +25,4 @@ unfolding onePllOf
 returns-3 c = rw (ne-eqb _ 0 (c .before .before .before .if1 .left)) (c .run-pll .ensures)
 
 pub plan-pll-spec : {M : Type 1} → statement M
-plan-pll-spec =
-    tie.close (tie.spec returns none-zero-requires returns-2 run-pll-requires returns-3)
+plan-pll-spec = tie.close (tie.spec returns (λ c κs. search needs) returns-2 run-pll-requires returns-3)

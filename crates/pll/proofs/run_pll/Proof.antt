@@ -6,17 +6,8 @@ use borrow.Author.Needs.{needs}
 use Rattle.pll.proofs.run_pll.Statement.{statement}
 use Rattle.pll.proofs.run_pll.Tie as tie
 
-span-of-requires : tie.Need-span-of-requires
-span-of-requires c κs = search needs
-
-enum-told : tie.Need-enum-told
-enum-told c = search needs
-
 returns : tie.Need-returns
 returns c = let s = c .before .before in idle _ _ (s .before .args .request) (sym (s .span-of .ensures) ∙ c .enum-told .given .1)
-
-enum-known-least : tie.Need-enum-known-least
-enum-known-least c = search needs
 
 returns-2 : tie.Need-returns-2
 returns-2 c = let k = c .before .before in
@@ -35,9 +26,6 @@ cast-divide c = let k = c .before .before .before in
     let h = c .if2 .left in
     omega arith
 
-cast-divide-2 : tie.Need-cast-divide-2
-cast-divide-2 c = search needs
-
 divide-requires : tie.Need-divide-requires
 divide-requires c κs = let k = c .before .before .before in
     let s = k .before .before in
@@ -51,15 +39,5 @@ returns-4 c = let e = c .before in
 
 pub run-pll-spec : {M : Type 1} → statement M
 run-pll-spec =
-    tie.close
-    (tie.spec
-    span-of-requires
-    enum-told
-    returns
-    enum-known-least
-    returns-2
-    returns-3
-    cast-divide
-    cast-divide-2
-    divide-requires
-    returns-4)
+    tie.close (tie.spec (λ c κs. search needs) (λ c. search needs) returns (λ c. search needs) returns-2 returns-3 cast-divide
+    (λ c. search needs) divide-requires returns-4)

@@ -5,7 +5,7 @@ use borrow.Author.Needs.{needs}
 use borrow.Author.Tests.{ne-eqb}
 use Rattle.rules.specs.Document01.Hertz.{notZero}
 use Rattle.rules.specs.Document01.Buses.{hpreOf, hpreFor, ahbOf}
-use Rattle.rules.proofs.Agreement.Buses.{hpre-pos}
+use Rattle.rules.proofs.Document01.Ratios.{hpre-pos}
 use Rattle.prescaler.proofs.Zero.{zero, nonzero}
 use Rattle.prescaler.proofs.ahb.Statement.{statement}
 use Rattle.prescaler.proofs.ahb.Tie as tie
@@ -17,18 +17,12 @@ module _ (c : tie.After-hpre-of) where
   divisor : c .hpre-of .result ≡ hpreFor (c .before .before .before .before .args .system) (c .before .before .before .before .args .requested)
   divisor = c .hpre-of .ensures ∙ ap hpreOf (c .before .bus-ratio .ensures)
 
-is-zero-requires : tie.Need-is-zero-requires
-is-zero-requires c κs = search needs
-
 returns : tie.Need-returns
 unfolding ahbOf
 returns c = rw (zero (c .before .before .args .requested) (c .before .is-zero .ensures) (c .if1 .taken))
 
 bus-ratio-requires : tie.Need-bus-ratio-requires
 bus-ratio-requires c κs = nonzero (c .before .before .args .requested) (c .before .is-zero .ensures) (c .if1 .left)
-
-hpre-of-requires : tie.Need-hpre-of-requires
-hpre-of-requires c κs = search needs
 
 div-hclk : tie.Need-div-hclk
 div-hclk c = rw (c .hpre-of .ensures) (hpre-pos (c .before .bus-ratio .result))
@@ -42,4 +36,4 @@ unfolding ahbOf
 returns-3 c = rw (above-zero (c .before), ← divisor (c .before), ne-eqb _ _ (c .if2 .left))
 
 pub ahb-spec : {M : Type 1} → statement M
-ahb-spec = tie.close (tie.spec is-zero-requires returns bus-ratio-requires hpre-of-requires div-hclk returns-2 returns-3)
+ahb-spec = tie.close (tie.spec (λ c κs. search needs) returns bus-ratio-requires (λ c κs. search needs) div-hclk returns-2 returns-3)

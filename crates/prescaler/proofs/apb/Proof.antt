@@ -2,13 +2,10 @@
 use mathlib.Core.Path.{_≡_, ap, _∙_}
 use borrow.Author.Needs.{needs}
 use Rattle.rules.specs.Document01.Buses.{ppreOf, ppreFor, apbOf}
-use Rattle.rules.proofs.Agreement.Buses.{ppre-pos}
+use Rattle.rules.proofs.Document01.Ratios.{ppre-pos}
 use Rattle.prescaler.proofs.Zero.{zero, nonzero}
 use Rattle.prescaler.proofs.apb.Statement.{statement}
 use Rattle.prescaler.proofs.apb.Tie as tie
-
-is-zero-requires : tie.Need-is-zero-requires
-is-zero-requires c κs = search needs
 
 returns : tie.Need-returns
 unfolding apbOf
@@ -16,9 +13,6 @@ returns c = rw (zero (c .before .before .args .requested) (c .before .is-zero .e
 
 bus-ratio-requires : tie.Need-bus-ratio-requires
 bus-ratio-requires c κs = nonzero (c .before .before .args .requested) (c .before .is-zero .ensures) (c .if1 .left)
-
-ppre-of-requires : tie.Need-ppre-of-requires
-ppre-of-requires c κs = search needs
 
 div-pclk : tie.Need-div-pclk
 div-pclk c = rw (c .ppre-of .ensures) (ppre-pos (c .before .bus-ratio .result))
@@ -31,4 +25,4 @@ returns-2 c =
     rw (nonzero (a .requested) (c .before .before .before .is-zero .ensures) (c .before .before .if1 .left), ← divisor)
 
 pub apb-spec : {M : Type 1} → statement M
-apb-spec = tie.close (tie.spec is-zero-requires returns bus-ratio-requires ppre-of-requires div-pclk returns-2)
+apb-spec = tie.close (tie.spec (λ c κs. search needs) returns bus-ratio-requires (λ c κs. search needs) div-pclk returns-2)

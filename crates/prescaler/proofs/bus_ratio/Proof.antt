@@ -9,18 +9,9 @@ use Rattle.rules.specs.Document01.Hertz.{ratioOf}
 use Rattle.prescaler.proofs.bus_ratio.Statement.{statement}
 use Rattle.prescaler.proofs.bus_ratio.Tie as tie
 
-enum-told : tie.Need-enum-told
-enum-told c = search needs
-
 returns : tie.Need-returns
 unfolding ratioOf
 returns c = rw (c .before .enum-told .given .1, c .if1 .taken)
-
-ratio-requires : tie.Need-ratio-requires
-ratio-requires c κs = search needs
-
-enum-known-requested : tie.Need-enum-known-requested
-enum-known-requested c = search needs
 
 ratio-requires-2 : tie.Need-ratio-requires-2
 ratio-requires-2 c κs =
@@ -35,4 +26,5 @@ returns-3 : tie.Need-returns-3
 returns-3 c = rw (c .before .before .requested .given .1) (c .ratio2 .ensures)
 
 pub bus-ratio-spec : {M : Type 1} → statement M
-bus-ratio-spec = tie.close (tie.spec enum-told returns ratio-requires enum-known-requested ratio-requires-2 returns-2 returns-3)
+bus-ratio-spec =
+    tie.close (tie.spec (λ c. search needs) returns (λ c κs. search needs) (λ c. search needs) ratio-requires-2 returns-2 returns-3)

@@ -7,19 +7,10 @@ use Rattle.laws.proofs.Tests.{by-test}
 use Rattle.prescaler.proofs.is_zero.Statement.{statement}
 use Rattle.prescaler.proofs.is_zero.Tie as tie
 
-enum-told : tie.Need-enum-told
-enum-told c = search needs
-
-enum-known-requested : tie.Need-enum-known-requested
-enum-known-requested c = search needs
-
-returns : tie.Need-returns
-returns c = search needs
-
 returns-2 : tie.Need-returns-2
 returns-2 c =
     let h = c .before .requested .given .0 .0 in
     rw (c .before .requested .given .1) (by-test (eqb h 0) (λ (t : eqb h 0 ≡ true). rw t) (λ (t : eqb h 0 ≡ false). rw t))
 
 pub is-zero-spec : {M : Type 1} → statement M
-is-zero-spec = tie.close (tie.spec enum-told enum-known-requested returns returns-2)
+is-zero-spec = tie.close (tie.spec (λ c. search needs) (λ c. search needs) (λ c. search needs) returns-2)

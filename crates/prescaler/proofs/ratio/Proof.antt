@@ -8,12 +8,6 @@ use Rattle.rules.proofs.Agreement.Numbers.{ceil-is}
 use Rattle.prescaler.proofs.ratio.Statement.{statement}
 use Rattle.prescaler.proofs.ratio.Tie as tie
 
-div-q : tie.Need-div-q
-div-q c = search needs
-
-rem-if1 : tie.Need-rem-if1
-rem-if1 c = search needs
-
 returns : tie.Need-returns
 returns c =
     let a = c .before .args in
@@ -32,4 +26,4 @@ returns-2 c =
     rw (ne-eqb (a .clock % a .wanted) 0 (λ e. omega (arith, c .if1 .left))) at (ceil-is (a .clock) (a .wanted) (c .before .pre))
 
 pub ratio-spec : {M : Type 1} → statement M
-ratio-spec = tie.close (tie.spec div-q rem-if1 returns add-result returns-2)
+ratio-spec = tie.close (tie.spec (λ c. search needs) (λ c. search needs) returns add-result returns-2)

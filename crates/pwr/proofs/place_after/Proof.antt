@@ -6,9 +6,6 @@ use Rattle.pwr.specs.Walk.{placeAfter}
 use Rattle.pwr.proofs.place_after.Statement.{statement}
 use Rattle.pwr.proofs.place_after.Tie as tie
 
-sub-if2 : tie.Need-sub-if2
-sub-if2 c = search needs
-
 returns : tie.Need-returns
 unfolding placeAfter
 returns c = rw (c .before .match .keys1, c .if1 .taken)
@@ -44,4 +41,4 @@ returns-8 c =
     simp (ne-eqb _ _ (n .0 .0 .0 .1), ne-eqb _ _ (n .0 .0 .1), ne-eqb _ _ (n .0 .1), ne-eqb _ _ (n .1))
 
 pub place-after-spec : {M : Type 1} → statement M
-place-after-spec = tie.close (tie.spec sub-if2 returns returns-2 returns-3 returns-4 returns-5 returns-6 returns-7 returns-8)
+place-after-spec = tie.close (tie.spec (λ c. search needs) returns returns-2 returns-3 returns-4 returns-5 returns-6 returns-7 returns-8)

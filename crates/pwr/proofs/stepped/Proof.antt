@@ -8,9 +8,6 @@ use Rattle.pwr.proofs.Laws.{refused-step, refused-stand, moved-step, st
 use Rattle.pwr.proofs.stepped.Statement.{statement}
 use Rattle.pwr.proofs.stepped.Tie as tie
 
-place-after-requires : tie.Need-place-after-requires
-place-after-requires c κs = search needs
-
 returns : tie.Need-returns
 returns c =
     let i = c .before .before .args in
@@ -22,4 +19,4 @@ returns-2 : tie.Need-returns-2
 returns-2 c = let i = c .before .args in (refused-step (i .w) (i .a) (i .b) (c .if1 .left), refused-stand (i .w) (i .a) (i .b) (c .if1 .left))
 
 pub stepped-spec : {M : Type 1} → statement M
-stepped-spec = tie.close (tie.spec place-after-requires returns returns-2)
+stepped-spec = tie.close (tie.spec (λ c κs. search needs) returns returns-2)

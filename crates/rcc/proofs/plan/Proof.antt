@@ -5,19 +5,10 @@ use Rattle.rcc.proofs.Promised.{promised}
 use Rattle.rcc.proofs.plan.Statement.{statement}
 use Rattle.rcc.proofs.plan.Tie as tie
 
-read-request-requires : tie.Need-read-request-requires
-read-request-requires c κs = search needs
-
-answer-to-requires : tie.Need-answer-to-requires
-answer-to-requires c κs = search needs
-
 returns : tie.Need-returns
 returns c =
     let y = c .before .before .before .before .read-request in
     promised _ _ _ (answered-read _ _ (y .result) (y .ensures) (c .before .if1 .taken) (c .answer-to .result) (c .answer-to .ensures))
-
-refused-requires : tie.Need-refused-requires
-refused-requires c κs = search needs
 
 returns-2 : tie.Need-returns-2
 returns-2 c =
@@ -25,6 +16,4 @@ returns-2 c =
     promised _ _ _ (refused-unread _ _ (y .result) (y .ensures) (c .before .if1 .left) (c .refused .result) (c .refused .ensures))
 
 pub plan-spec : {M : Type 1} → statement M
-plan-spec =
-    tie.close
-    (tie.spec read-request-requires answer-to-requires returns refused-requires returns-2)
+plan-spec = tie.close (tie.spec (λ c κs. search needs) (λ c κs. search needs) returns (λ c κs. search needs) returns-2)

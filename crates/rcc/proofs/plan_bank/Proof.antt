@@ -9,20 +9,11 @@ use Rattle.rcc.proofs.Promised.{bank-promised}
 use Rattle.rcc.proofs.plan_bank.Statement.{statement}
 use Rattle.rcc.proofs.plan_bank.Tie as tie
 
-read-request-requires : tie.Need-read-request-requires
-read-request-requires c κs = search needs
-
-refused-requires : tie.Need-refused-requires
-refused-requires c κs = search needs
-
 returns : tie.Need-returns
 returns c =
     let y = c .before .before .before .read-request in
     let b = now (c .before .before .before .before .before .before .args .bank) in
     bank-promised _ _ (length b) b b (c .refused .result) (bank-unread _ _ (length b) (y .result) (y .ensures) (not-true _ (c .before .if1 .taken)) (c .refused .result) (c .refused .ensures)) (refused-keeps OutsideCodes (c .refused .result) b (c .refused .ensures))
-
-refused-requires-2 : tie.Need-refused-requires-2
-refused-requires-2 c κs = search needs
 
 returns-2 : tie.Need-returns-2
 returns-2 c =
@@ -30,32 +21,14 @@ returns-2 c =
     let b = now (c .before .before .before .before .before .before .before .args .bank) in
     bank-promised _ _ (length b) b b (c .refused2 .result) (bank-length _ _ (length b) (y .result) (y .ensures) (not-false _ (c .before .before .if1 .left)) (c .before .if2 .taken) (c .refused2 .result) (c .refused2 .ensures)) (refused-keeps BankLength (c .refused2 .result) b (c .refused2 .ensures))
 
-answer-to-requires : tie.Need-answer-to-requires
-answer-to-requires c κs = search needs
-
-store-requires : tie.Need-store-requires
-store-requires c κs = search needs
-
-same-length : tie.Need-same-length
-same-length c = search needs
-
 returns-3 : tie.Need-returns-3
 returns-3 c =
     let k = c .before .before .before .before in
     let y = k .before .before .before .before .before .before .read-request in
     let b = now (k .before .before .before .before .before .before .before .before .before .args .bank) in
-    bank-promised _ _ (length b) b (c .before .before .store .last .1 .0) (k .answer-to .result) (bank-answered _ _ (length b) (y .result) (y .ensures) (not-false _ (k .before .before .before .before .if1 .left)) (k .before .before .before .if2 .left) (k .answer-to .result) (k .answer-to .ensures)) (c .before .before .store .ensures)
+    bank-promised _ _ (length b) b (c .before .before .apply .last .1 .0) (k .answer-to .result) (bank-answered _ _ (length b) (y .result) (y .ensures) (not-false _ (k .before .before .before .before .if1 .left)) (k .before .before .before .if2 .left) (k .answer-to .result) (k .answer-to .ensures)) (c .before .before .apply .ensures)
 
 pub plan-bank-spec : {M : Type 1} → statement M
 plan-bank-spec =
-    tie.close
-    (tie.spec
-    read-request-requires
-    refused-requires
-    returns
-    refused-requires-2
-    returns-2
-    answer-to-requires
-    store-requires
-    same-length
-    returns-3)
+    tie.close (tie.spec (λ c κs. search needs) (λ c κs. search needs) returns (λ c κs. search needs) returns-2 (λ c κs. search needs)
+    (λ c κs. search needs) (λ c. search needs) returns-3)

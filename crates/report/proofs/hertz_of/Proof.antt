@@ -3,17 +3,8 @@ use borrow.Author.Needs.{needs}
 use Rattle.report.proofs.hertz_of.Statement.{statement}
 use Rattle.report.proofs.hertz_of.Tie as tie
 
-enum-told : tie.Need-enum-told
-enum-told c = search needs
-
-enum-known-o : tie.Need-enum-known-o
-enum-known-o c = search needs
-
-returns : tie.Need-returns
-returns c = search needs
-
 returns-2 : tie.Need-returns-2
 returns-2 c = rw (c .before .o .given .1)
 
 pub hertz-of-spec : {M : Type 1} → statement M
-hertz-of-spec = tie.close (tie.spec enum-told enum-known-o returns returns-2)
+hertz-of-spec = tie.close (tie.spec (λ c. search needs) (λ c. search needs) (λ c. search needs) returns-2)

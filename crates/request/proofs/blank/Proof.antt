@@ -3,11 +3,8 @@ use borrow.Author.Needs.{needs}
 use Rattle.request.proofs.blank.Statement.{statement}
 use Rattle.request.proofs.blank.Tie as tie
 
-blank-request-requires : tie.Need-blank-request-requires
-blank-request-requires c κs = search needs
-
 returns : tie.Need-returns
 returns c = rw (c .blank-request .ensures)
 
 pub blank-spec : {M : Type 1} → statement M
-blank-spec = tie.close (tie.spec blank-request-requires returns)
+blank-spec = tie.close (tie.spec (λ c κs. search needs) returns)

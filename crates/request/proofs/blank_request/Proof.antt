@@ -3,11 +3,8 @@ use borrow.Author.Needs.{needs}
 use Rattle.request.proofs.blank_request.Statement.{statement}
 use Rattle.request.proofs.blank_request.Tie as tie
 
-no-part-requires : tie.Need-no-part-requires
-no-part-requires c κs = search needs
-
 returns : tie.Need-returns
 returns c = rw (c .no-part .ensures)
 
 pub blank-request-spec : {M : Type 1} → statement M
-blank-request-spec = tie.close (tie.spec no-part-requires returns)
+blank-request-spec = tie.close (tie.spec (λ c κs. search needs) returns)

@@ -3,11 +3,8 @@ use borrow.Author.Needs.{needs}
 use Rattle.request.proofs.none_read.Statement.{statement}
 use Rattle.request.proofs.none_read.Tie as tie
 
-no-part-requires : tie.Need-no-part-requires
-no-part-requires c κs = search needs
-
 returns : tie.Need-returns
 returns c = rw (c .no-part .ensures)
 
 pub none-read-spec : {M : Type 1} → statement M
-none-read-spec = tie.close (tie.spec no-part-requires returns)
+none-read-spec = tie.close (tie.spec (λ c κs. search needs) returns)

@@ -7,7 +7,8 @@ use borrow.Author.Needs.{needs}
 use Rattle.types.specs.declared.ChipState.{ChipState}
 use Rattle.rules.specs.Document01.Bytes.{sizeOf}
 use Rattle.rules.proofs.Document01.BytesWhole.{at-least}
-use Rattle.request.specs.Chips.{chipOk, stateOf}
+use Rattle.request.specs.Chips.{chipOk}
+use Rattle.rules.specs.Demands.ByPlaces.{stateOf}
 use Rattle.request.proofs.Reading.{all-bytes, bad-chip, bad-size, bad-form, taken}
 use Rattle.request.proofs.read_request.Statement.{statement}
 use Rattle.request.proofs.read_request.Tie as tie
@@ -23,23 +24,8 @@ module _ (c : tie.After-size-of) where
   sized : c .size-of .result ≡ sizeOf (stateOf (c .before .before .before .before .before .args .chip) .three)
   sized = c .size-of .ensures ∙ ap sizeOf count
 
-chip-ok-requires : tie.Need-chip-ok-requires
-chip-ok-requires c κs = search needs
-
-blank-requires : tie.Need-blank-requires
-blank-requires c κs = search needs
-
 returns : tie.Need-returns
 returns c = c .blank .ensures ∙ sym (bad-chip _ _ (sym (c .before .before .chip-ok .ensures) ∙ not-true _ (c .before .if1 .taken)))
-
-state-of-requires : tie.Need-state-of-requires
-state-of-requires c κs = search needs
-
-size-of-requires : tie.Need-size-of-requires
-size-of-requires c κs = search needs
-
-blank-requires-2 : tie.Need-blank-requires-2
-blank-requires-2 c κs = search needs
 
 returns-2 : tie.Need-returns-2
 returns-2 c =
@@ -50,9 +36,6 @@ returns-2 c =
 
 formed-requires : tie.Need-formed-requires
 formed-requires c κs = let e = c .if2 .left ∙ c .before .size-of .ensures in (omega (arith, e, at-least (c .before .before .state-of .result .three)), omega (arith, e))
-
-blank-requires-3 : tie.Need-blank-requires-3
-blank-requires-3 c κs = search needs
 
 returns-3 : tie.Need-returns-3
 returns-3 c =
@@ -73,17 +56,5 @@ returns-4 c =
 
 pub read-request-spec : {M : Type 1} → statement M
 read-request-spec =
-    tie.close
-    (tie.spec
-    chip-ok-requires
-    blank-requires
-    returns
-    state-of-requires
-    size-of-requires
-    blank-requires-2
-    returns-2
-    formed-requires
-    blank-requires-3
-    returns-3
-    decode-requires
-    returns-4)
+    tie.close (tie.spec (λ c κs. search needs) (λ c κs. search needs) returns (λ c κs. search needs) (λ c κs. search needs)
+    (λ c κs. search needs) returns-2 formed-requires (λ c κs. search needs) returns-3 decode-requires returns-4)

@@ -24,9 +24,6 @@ module _ (c : tie.Else1) where
   long : 90 ≤ length (c .before .before .before .args .out .now)
   long = omega (arith, room, at-least (c .before .before .before .args .three))
 
-is-written-requires : tie.Need-is-written-requires
-is-written-requires c κs = search needs
-
 returns : tie.Need-returns
 returns c = let a = c .before .before .before .args in not-written (a .three) (a .request) (a .out .now) (sym (c .before .is-written .ensures) ∙ not-true _ (c .if1 .taken))
 
@@ -38,9 +35,6 @@ put-outputs-requires c κs = omega (arith, long (c .before .before .before .befo
 
 put-plls-requires : tie.Need-put-plls-requires
 put-plls-requires c κs = let f = c .before .before .before .before .before .before .before .before .before in (omega (arith, long f), omega (arith, room f))
-
-same-length : tie.Need-same-length
-same-length c = search needs
 
 returns-2 : tie.Need-returns-2
 returns-2 c =
@@ -56,12 +50,5 @@ returns-2 c =
 
 pub write-request-spec : {M : Type 1} → statement M
 write-request-spec =
-    tie.close
-    (tie.spec
-    is-written-requires
-    returns
-    put-clocks-requires
-    put-outputs-requires
-    put-plls-requires
-    same-length
+    tie.close (tie.spec (λ c κs. search needs) returns put-clocks-requires put-outputs-requires put-plls-requires (λ c. search needs)
     returns-2)

@@ -5,12 +5,6 @@ use Rattle.rules.specs.Document01.ResetReason.{reasonOf, resetOf}
 use Rattle.reset_reason.proofs.reset_reason.Statement.{statement}
 use Rattle.reset_reason.proofs.reset_reason.Tie as tie
 
-write-back-of-requires : tie.Need-write-back-of-requires
-write-back-of-requires c κs = search needs
-
-reason-of-requires : tie.Need-reason-of-requires
-reason-of-requires c κs = search needs
-
 returns : tie.Need-returns
 unfolding resetOf
 returns c = rw (c .before .if1 .taken, c .reason-of .ensures, c .before .before .write-back-of .ensures)
@@ -24,4 +18,4 @@ unfolding resetOf
 returns-3 c = rw (ne-eqb _ _ (c .before .if1 .left), ne-eqb _ _ (c .if2 .left))
 
 pub reset-reason-spec : {M : Type 1} → statement M
-reset-reason-spec = tie.close (tie.spec write-back-of-requires reason-of-requires returns returns-2 returns-3)
+reset-reason-spec = tie.close (tie.spec (λ c κs. search needs) (λ c κs. search needs) returns returns-2 returns-3)

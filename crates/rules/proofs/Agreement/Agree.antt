@@ -95,11 +95,18 @@ continue-same panics k l h = refl
 continue-same (ends es a) k l h = h a es
 
 -- a step whose value the rules do not use, then the next
-pub agree-next : {A B C D : Type 0} (R : A → List Entry → B → Type 0) (S : C → List Entry → D → Type 0) (x : Result A) (o : Outcome B) (r : Result C) (l : B → Run D) → Agree R x o → ((a : A) (es : List Entry) (b : B) → R a es b → Agree S r (l b es)) → Agree S (Rules._>>_ x r) (continue o l)
-agree-next R S (refused n) panics r l h f = tt
-agree-next R S (refused n) (ends es b) r l h f = absurd h
-agree-next R S (ok a) panics r l h f = absurd h
-agree-next R S (ok a) (ends es b) r l h f = f a es b h
+pub agree-next : {A B C D : Type 0} (E : Refusal → List Entry → Type 0) (R : A → List Entry → B → Type 0) (S : C → List Entry → D → Type 0) (x : Result A) (o : Outcome B) (r : Result C) (l : B → Run D) → Agree R x o → ((a : A) (es : List Entry) (b : B) → R a es b → AgreeOr E S r (l b es)) → AgreeOr E S (Rules._>>_ x r) (continue o l)
+agree-next E R S (refused n) panics r l h f = tt
+agree-next E R S (refused n) (ends es b) r l h f = absurd h
+agree-next E R S (ok a) panics r l h f = absurd h
+agree-next E R S (ok a) (ends es b) r l h f = f a es b h
+
+-- what the Rust still does behind a step changes nothing of it
+pub agree-on : {A B D : Type 0} (R : A → List Entry → B → Type 0) (S : A → List Entry → D → Type 0) (x : Result A) (o : Outcome B) (l : B → Run D) → Agree R x o → ((a : A) (es : List Entry) (b : B) → R a es b → Agree S (ok a) (l b es)) → Agree S x (continue o l)
+agree-on R S (refused n) panics l h f = tt
+agree-on R S (refused n) (ends es b) l h f = absurd h
+agree-on R S (ok a) panics l h f = absurd h
+agree-on R S (ok a) (ends es b) l h f = f a es b h
 
 -- what agrees, and of which something holds
 pub agree-holds : {A B : Type 0} (D : Refusal → List Entry → Type 0) (R : A → List Entry → B → Type 0) (P : A → Type 0) (x : Result A) (o : Outcome B) → AgreeOr D R x o → Holds P x → AgreeOr D (λ a es b. R a es b × P a) x o

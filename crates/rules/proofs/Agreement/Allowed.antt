@@ -22,14 +22,15 @@ use Rattle.types.specs.declared.Plan.{Plan}
 use Rattle.rules.specs.Document01.Request.{sourceOf, askedOf}
 use Rattle.rules.specs.Document01.Fields
 use Rattle.rules.specs.Document01.Fields.{ofPll}
-use Rattle.rules.specs.Document01.Entries.{outputEntries, fractionEntries, baseEntries, settingEntries, setupEntries, pllIn, clockEntries, hseEntries, sourceEntries, outputStart, startEntries, busEntries, planEntries}
+use Rattle.rules.specs.Document01.Entries.{outputEntries, fractionEntries, baseEntries, settingEntries, setupEntries, pllIn, clockEntries, hseEntries, sourceEntries, outputStart, startEntries, busEntries, planEntries, listWith}
 use Rattle.rules.specs.Manual.PllFields.{allowsP}
-use Rattle.rules.specs.Demands.Agreement.{oddP, pllCount, AllowsEachP}
+use Rattle.rules.specs.Demands.Agreement.{pllCount, AllowsEachP}
 use Rattle.rules.specs.Demands.Legal.{LegalP, LegalPll, LegalThird, LegalPlan}
+use Rattle.rules.specs.Document01.Chip.{oddAt}
 
 -- an entry sets no PLL's P, or to a value that is allowed
 abbrev Fine : ChipState → Entry → Type 0
-Fine c (Set f v) = (k : ℕ) → k < 3 → f ≡ ofPll k Fields.P → allowsP (oddP c k) v ≡ true
+Fine c (Set f v) = (k : ℕ) → k < 3 → f ≡ ofPll k Fields.P → allowsP (oddAt c k) v ≡ true
 Fine c (Set2 f v g w) = Unit {0}
 Fine c (Set3 f v g w h x) = Unit {0}
 Fine c (Set4 f v g w h x k y) = Unit {0}
@@ -76,9 +77,9 @@ module _ (c : ChipState) where
   fraction-fine k Whole = by tt
   fraction-fine k (Part f) = by (λ j l e. absurd (omega arith), (λ j l e. absurd (omega arith), (λ j l e. absurd (omega arith), tt)))
 
-  p-fine : (k : ℕ) (o : PllOutput) → LegalP (oddP c k) o → All c (outputEntries (ofPll k Fields.P) (ofPll k Fields.PEN) o)
+  p-fine : (k : ℕ) (o : PllOutput) → LegalP (oddAt c k) o → All c (outputEntries (ofPll k Fields.P) (ofPll k Fields.PEN) o)
   p-fine k Off h = by (λ j l e. absurd (omega arith), tt)
-  p-fine k (On d x) h = by (λ j l e. let same : k ≡ j = omega arith in subst (λ (i : ℕ). allowsP (oddP c i) (d - 1) ≡ true) same h, (λ j l e. absurd (omega arith), tt))
+  p-fine k (On d x) h = by (λ j l e. let same : k ≡ j = omega arith in subst (λ (i : ℕ). allowsP (oddAt c i) (d - 1) ≡ true) same h, (λ j l e. absurd (omega arith), tt))
 
   q-fine : (k : ℕ) (o : PllOutput) → All c (outputEntries (ofPll k Fields.Q) (ofPll k Fields.QEN) o)
   q-fine k Off = by (λ j l e. absurd (omega arith), tt)
@@ -88,16 +89,16 @@ module _ (c : ChipState) where
   r-fine k Off = by (λ j l e. absurd (omega arith), tt)
   r-fine k (On d x) = by (λ j l e. absurd (omega arith), (λ j l e. absurd (omega arith), tt))
 
-  setup-fine : (k source : ℕ) (a : PllRequest) (x : Pll) → LegalPll (oddP c k) source a x → All c (setupEntries k x)
+  setup-fine : (k source : ℕ) (a : PllRequest) (x : Pll) → LegalPll (oddAt c k) source a x → All c (setupEntries k x)
   unfolding settingEntries
   setup-fine k source a Idle h = by tt
   setup-fine k source a (Runs s) h = base-fine k s then fraction-fine k (s .fraction) then p-fine k (s .p) (h .odd-p) then q-fine k (s .q) then r-fine k (s .r)
 
-  third-fine : (three : Bool) (source : ℕ) (a : PllRequest) (x : Pll) → LegalThird three (c .odd3) source a x → All c (setupEntries 2 x)
+  third-fine : (three : Bool) (source : ℕ) (a : PllRequest) (x : Pll) → LegalThird three (oddAt c 2) source a x → All c (setupEntries 2 x)
   third-fine true source a x h = setup-fine 2 source a x h
   third-fine false source a x h = rw h (by tt)
 
-  clocks-fine : (p : Plan) → All c (clockEntries p)
+  clocks-fine : (p : Plan) → All c (clockEntries (p .waits) (p .selectors) (p .mcos))
   unfolding clockEntries
   clocks-fine p =
       by (λ j l e. absurd (omega arith), (tt, (tt, (tt, (λ j l e. absurd (omega arith), (tt, (λ j l e. absurd (omega arith), (tt, (tt, tt)))))))))
@@ -118,17 +119,17 @@ module _ (c : ChipState) where
       go Off = by tt
       go (On d h) = by (λ j l e. absurd (omega arith), (tt, tt))
 
-  bus-fine : (p : Plan) → All c (busEntries p)
+  bus-fine : (p : Plan) → All c (busEntries (p .buses) (p .selectors))
   unfolding busEntries
   bus-fine p =
       by (tt, (tt, (λ j l e. absurd (omega arith), (λ j l e. absurd (omega arith), (λ j l e. absurd (omega arith), (tt, (tt, (λ j l e. absurd (omega arith), (tt, (tt, tt))))))))))
 
   plan-fine : (q : Request) (p : Plan) → LegalPlan q c p → All c (planEntries p)
-  unfolding planEntries
+  unfolding listWith
   plan-fine q p h =
-      setup-fine 0 (sourceOf q) (askedOf q 0) (pllIn p 0) (h .pll1) then setup-fine 1 (sourceOf q) (askedOf q 1) (pllIn p 1) (h .pll2) then third-fine (c .three) (sourceOf q) (askedOf q 2) (pllIn p 2) (h .pll3)
-      then clocks-fine p then hse-fine (p .hse) (p .bypass) then source-fine (p .three) (p .src)
-      then start-fine 0 (pllIn p 0) then start-fine 1 (pllIn p 1) then start-fine 2 (pllIn p 2) then bus-fine p
+      (setup-fine 0 (sourceOf q) (askedOf q 0) (pllIn p 0) (h .pll1) then setup-fine 1 (sourceOf q) (askedOf q 1) (pllIn p 1) (h .pll2) then third-fine (c .three) (sourceOf q) (askedOf q 2) (pllIn p 2) (h .pll3))
+      then clocks-fine p then hse-fine (p .clocks .hse) (p .bypass) then source-fine (p .three) (p .selectors .src)
+      then (start-fine 0 (pllIn p 0) then start-fine 1 (pllIn p 1) then start-fine 2 (pllIn p 2)) then bus-fine p
 
   pub plan-allowed : (q : Request) (p : Plan) → LegalPlan q c p → AllowsEachP c (planEntries p)
   plan-allowed q p h = all-allowed (plan-fine q p h)

@@ -15,74 +15,64 @@ use Rattle.types.specs.declared.Request.{Request}
 use Rattle.rules.specs.Document01.Result as Rules
 use Rattle.rules.specs.Document01.Result.{Result, ok}
 use Rattle.rules.specs.Document01.Hertz.{ratioOf, hertzOr, notZero}
-use Rattle.rules.specs.Document01.Buses.{Bus, hpreOf, ppreOf, hpreFor, ahbOf, apbOf, timerOf}
+use Rattle.rules.specs.Document01.Buses.{hpreOf, ppreOf, hpreFor, ahbOf, apbOf, timerOf}
 use Rattle.rules.specs.Document01.Plan as R
 use Rattle.rules.specs.Document01.Plan.{busesOf}
 use Rattle.rules.specs.Rust.Run.{Outcome, panics, ends, Run, continue, return, div-ceil, unwrap-or}
 use Rattle.rules.specs.Rust.Rcc as F
 use Rattle.rules.specs.Rust.Rcc.{Config, match-hpre, PPRE, Div1, Div2, Div4, Div8, Div16, ppre-div, DefaultX2, match-ppre, Pclk, ppre-calculate, rcc-tim-ker-clk, Hclk, hclk-calculate, buses-calculate}
 use Rattle.laws.proofs.Tests.{by-test, row, one-row}
+use Rattle.rules.proofs.Document01.Ratios.{every, hpre-pos, ppre-pos}
 use Rattle.rules.proofs.Agreement.Agree.{Agree, agree-then}
 use Rattle.rules.proofs.Document01.Span.{pos-of}
 use Rattle.rules.proofs.Agreement.Numbers.{nonzero, or-same, ceil-is, ratio-none}
+use Rattle.types.specs.declared.Bus.{Bus}
+use Rattle.types.specs.declared.Buses.{Buses}
+use Rattle.rules.specs.Demands.Departures.{freezeHpre}
+use Rattle.rules.specs.Demands.Departures.{freezePpre}
+use Rattle.rules.specs.Demands.Departures.{freezeApbRows}
 
 -- the match ranges against the rows
-hpre-match : (x : ℕ) → 1 ≤ x → match-hpre x ≡ return (hpreOf x)
+hpre-match : (x : ℕ) → 1 ≤ x → match-hpre x ≡ return (freezeHpre x)
 hpre-match x h =
     rw (nonzero x h)
-    (one-row return x 1 1 _ _ h
-    (λ g1. one-row return x 2 2 _ _ g1
-    (λ g2. row return x 5 4 _ _ 3 g2
-    (λ g5. row return x 11 8 _ _ 6 g5
-    (λ g11. row return x 39 16 _ _ 12 g11
-    (λ g39. row return x 95 64 _ _ 40 g39
-    (λ g95. row return x 191 128 _ _ 96 g95
-    (λ g191. row return x 383 256 512 _ 192 g191 (λ g383. refl)))))))))
+    (one-row return x _ _ _ _ h
+    (λ g1. one-row return x _ _ _ _ g1
+    (λ g2. row return x _ _ _ _ _ g2
+    (λ g3. row return x _ _ _ _ _ g3
+    (λ g4. row return x _ _ _ _ _ g4
+    (λ g5. row return x _ _ _ _ _ g5
+    (λ g6. row return x _ _ _ _ _ g6
+    (λ g7. row return x _ _ _ _ _ g7 (λ g8. refl)))))))))
 
-pub hpre-row : (x : ℕ) (es : List Entry) → 1 ≤ x → match-hpre x es ≡ ends es (hpreOf x)
+pub hpre-row : (x : ℕ) (es : List Entry) → 1 ≤ x → match-hpre x es ≡ ends es (freezeHpre x)
 hpre-row x es h = ap (λ (r : Run ℕ). r es) (hpre-match x h)
 
-cond-pos : (b : Bool) {m n : ℕ} → 1 ≤ m → 1 ≤ n → 1 ≤ cond b m n
-cond-pos true p q = p
-cond-pos false p q = q
-
-pub hpre-pos : (x : ℕ) → 1 ≤ hpreOf x
-hpre-pos x = cond-pos (leb x 1) (lit≤ tt) (cond-pos (leb x 2) (lit≤ tt) (cond-pos (leb x 5) (lit≤ tt) (cond-pos (leb x 11) (lit≤ tt) (cond-pos (leb x 39) (lit≤ tt) (cond-pos (leb x 95) (lit≤ tt) (cond-pos (leb x 191) (lit≤ tt) (cond-pos (leb x 383) (lit≤ tt) (lit≤ tt))))))))
-
-pub ppre-pos : (x : ℕ) → 1 ≤ ppreOf x
-ppre-pos x = cond-pos (leb x 1) (lit≤ tt) (cond-pos (leb x 2) (lit≤ tt) (cond-pos (leb x 5) (lit≤ tt) (cond-pos (leb x 11) (lit≤ tt) (lit≤ tt))))
-
 -- the same for APB, with the bits that stand for the divisor
-abbrev pub bitsOf : ℕ → PPRE
-bitsOf x = cond (leb x 1) Div1 (cond (leb x 2) Div2 (cond (leb x 5) Div4 (cond (leb x 11) Div8 Div16)))
+abbrev pub bitsFor : (divisor : ℕ) → PPRE
+bitsFor d = cond (eqb d 1) Div1 (cond (eqb d 2) Div2 (cond (eqb d 4) Div4 (cond (eqb d 8) Div8 Div16)))
+
+abbrev pub bitsOf : (ratio : ℕ) → PPRE
+bitsOf x = bitsFor (freezePpre x)
 
 ppre-match : (x : ℕ) → 1 ≤ x → match-ppre x ≡ return (bitsOf x)
 ppre-match x h =
+    let f : ℕ → Run PPRE = λ d. return (bitsFor d) in
     rw (nonzero x h)
-    (one-row return x 1 Div1 _ _ h
-    (λ g1. one-row return x 2 Div2 _ _ g1
-    (λ g2. row return x 5 Div4 _ _ 3 g2
-    (λ g5. row return x 11 Div8 Div16 _ 6 g5 (λ g11. refl)))))
+    (one-row f x 1 1 _ _ h
+    (λ g1. one-row f x 2 2 _ _ g1
+    (λ g2. row f x 5 4 _ _ 3 g2
+    (λ g3. row f x 11 8 16 _ 6 g3 (λ g4. refl)))))
 
 pub ppre-row : (x : ℕ) (es : List Entry) → 1 ≤ x → match-ppre x es ≡ ends es (bitsOf x)
 ppre-row x es h = ap (λ (r : Run PPRE). r es) (ppre-match x h)
 
-pub bits-div : (x : ℕ) → ppre-div (bitsOf x) ≡ ppreOf x
-bits-div x =
-    by-test (leb x 1) (λ (t : leb x 1 ≡ true). simp (t))
-    (λ (f0 : leb x 1 ≡ false). by-test (leb x 2) (λ (t : leb x 2 ≡ true). simp (f0, t))
-    (λ (f1 : leb x 2 ≡ false). by-test (leb x 5) (λ (t : leb x 5 ≡ true). simp (f0, f1, t))
-    (λ (f2 : leb x 5 ≡ false). by-test (leb x 11) (λ (t : leb x 11 ≡ true). simp (f0, f1, f2, t))
-    (λ (f3 : leb x 11 ≡ false). simp (f0, f1, f2, f3)))))
+pub bits-div : (x : ℕ) → ppre-div (bitsOf x) ≡ freezePpre x
+bits-div x = every (λ d. ppre-div (bitsFor d) ≡ d) freezeApbRows 16 (refl, (refl, (refl, (refl, refl)))) x
 
-pub bits-timer : (x hclk : ℕ) → rcc-tim-ker-clk (bitsOf x) DefaultX2 hclk ≡ timerOf hclk (ppreOf x)
+pub bits-timer : (x hclk : ℕ) → rcc-tim-ker-clk (bitsOf x) DefaultX2 hclk ≡ timerOf hclk (freezePpre x)
 unfolding timerOf
-bits-timer x hclk =
-    by-test (leb x 1) (λ (t : leb x 1 ≡ true). simp (t))
-    (λ (f0 : leb x 1 ≡ false). by-test (leb x 2) (λ (t : leb x 2 ≡ true). simp (f0, t))
-    (λ (f1 : leb x 2 ≡ false). by-test (leb x 5) (λ (t : leb x 5 ≡ true). simp (f0, f1, t))
-    (λ (f2 : leb x 5 ≡ false). by-test (leb x 11) (λ (t : leb x 11 ≡ true). simp (f0, f1, f2, t))
-    (λ (f3 : leb x 11 ≡ false). simp (f0, f1, f2, f3)))))
+bits-timer x hclk = every (λ d. rcc-tim-ker-clk (bitsFor d) DefaultX2 hclk ≡ timerOf hclk d) freezeApbRows 16 (refl, (refl, (refl, (refl, refl)))) x
 
 -- a divisor's clock, from a ratio that is not 0
 module _ (clock wanted : ℕ) (some : 1 ≤ clock) (set : 1 ≤ wanted) (es : List Entry) where
@@ -156,7 +146,7 @@ pub apb-agrees : (ahb : ℕ) (h : Hertz) (es : List Entry) → 1 ≤ ahb → Agr
 apb-agrees ahb h es p = by-test (notZero h) (λ t. apb-runs ahb h es p t) (λ f. apb-refused ahb h es f)
 
 -- ---- the buses
-pub record SameBuses (es : List Entry) (b : R.Buses) (es′ : List Entry) (r : F.Buses) : Type 0 where
+pub record SameBuses (es : List Entry) (b : Buses) (es′ : List Entry) (r : F.Buses) : Type 0 where
   pub kept : es′ ≡ es
   pub some : 1 ≤ b .ahb .clock
   pub hclk : r .hclk ≡ hclkOf (b .ahb)
@@ -188,7 +178,7 @@ module _ (q : Request) (c : Config) (same : (c .rcc-hclk ≡ q .ahb) × (c .rcc-
   abbrev ahb : ℕ
   ahb = bus .clock
 
-  abbrev apbs : Result R.Buses
+  abbrev apbs : Result Buses
   apbs = Rules._>>=_ (apbOf ahb (q .apb1)) (λ b1. Rules._>>=_ (apbOf ahb (q .apb2)) (λ b2. Rules._>>=_ (apbOf ahb (q .apb3)) (λ b3. ok (record { ahb = bus; apb1 = b1; apb2 = b2; apb3 = b3 }))))
 
   abbrev pclks : Outcome F.Buses

@@ -17,11 +17,11 @@ use Rattle.types.specs.declared.Refusal.the-variants.{AboveLimit, McoHseUnstate
 use Rattle.rules.specs.Document01.Result.{Result, refused, ok, _>>=_, _>>_}
 use Rattle.rules.specs.Document01.Refusals.{numberOf}
 use Rattle.rules.specs.Document01.Hertz.{isSet, notZero}
-use Rattle.rules.specs.Document01.Request.{pllAt, within, limited, fromHse1, fromHse2, stated, pll1Asked, pll2Asked, sourceOf, systemOf, needsPll1, like, askedOf, forSystemClock, sourced}
+use Rattle.rules.specs.Document01.Request.{pllAt, within, limited, fromHse1, fromHse2, stated, pll1Asked, pll2Asked, sourceOf, systemOf, needsPll1, like, askedOf, sourced, systemFits, configured}
 use Rattle.rules.specs.Document01.ChoiceOfM.{chosenM}
 use Rattle.rules.specs.Document01.OnePll.{wanted, noneZero, countedOutputs, least, largest, admissible, firstOf, fractionOf, dividerP, allowedP, spanned, rangeFor, targetFor, dividedBy, settingsOf, settled, runs, running, pllOf}
-use Rattle.rules.specs.Document01.Plan.{thirdOf, pllsOf, hsiReady, systemFrom, busesOf, mcosOf, chosenPlan}
-use Rattle.rules.specs.Demands.Agreement.{oddP, pllCount, Forbidden, Cause}
+use Rattle.rules.specs.Document01.Plan.{pllsOf, hsiReady, systemFrom, busesOf, mcosOf, chosenPlan, plannedAt}
+use Rattle.rules.specs.Demands.Agreement.{pllCount, Forbidden, Cause}
 use Rattle.rules.specs.Manual.Tree.{among}
 use Rattle.laws.proofs.Tests.{by-test, never, and-left, and-right}
 use Rattle.rules.proofs.Document01.Results.{Only, only-weaker, only-require, only-then, only-next, only-tested, only-known}
@@ -30,7 +30,7 @@ use Rattle.rules.proofs.Document01.Span.{pos-is, span}
 use Rattle.rules.proofs.Agreement.Settle.{CountedDivides, above-why, odd-why}
 use Rattle.rules.proofs.Agreement.OnePll.{counted-divides}
 use Rattle.rules.proofs.Agreement.Plls.{two-there}
-use Rattle.rules.proofs.Legal.Plan.{asked-first}
+use Rattle.rules.specs.Document01.Chip.{oddAt}
 
 -- a refusal that is 14 or 15 has a cause
 abbrev pub Told : (Refusal → Type 0) → Refusal → Type 0
@@ -110,35 +110,35 @@ module _ (q : Request) (c : ChipState) where
   abbrev C : Refusal → Type 0
   C = Told (Cause q c)
 
-  of-pll : (k : ℕ) (a : PllRequest) → k < pllCount c → a ≡ askedOf q k → Only C (pllOf (oddP c k) (sourceOf q) a)
-  of-pll k a l is =
-      only-weaker (Told (Forbidden (oddP c k) a)) C (pllOf (oddP c k) (sourceOf q) a)
-      (λ n f e. record { pll = k; there = l; at = subst (λ (b : PllRequest). Forbidden (oddP c k) b n) is (f e) })
-      (pll-told (oddP c k) (sourceOf q) a)
+  of-pll : (k : ℕ) → k < pllCount c → Only C (pllOf (oddAt c k) (sourceOf q) (askedOf q k))
+  of-pll k l =
+      only-weaker (Told (Forbidden (oddAt c k) (askedOf q k))) C (pllOf (oddAt c k) (sourceOf q) (askedOf q k))
+      (λ n f e. record { pll = k; there = l; at = f e })
+      (pll-told (oddAt c k) (sourceOf q) (askedOf q k))
 
-  third-told : Only C (thirdOf q c)
+  third-told : Only C (plannedAt q c 2)
   third-told = go (c .three) refl
     where
-      go : (t : Bool) → c .three ≡ t → Only C (cond t (pllOf (c .odd3) (sourceOf q) (pllAt q 2)) (ok Idle))
-      go true t = of-pll 2 (pllAt q 2) (rw t (omega arith)) refl
+      go : (t : Bool) → c .three ≡ t → Only C (cond t (pllOf (oddAt c 2) (sourceOf q) (askedOf q 2)) (ok Idle))
+      go true t = of-pll 2 (rw t (omega arith))
       go false t = tt
 
-  system-told : (t : Bool) (s : ℕ) (a : PllRequest) → Only C (forSystemClock t s a)
-  unfolding forSystemClock
-  system-told false s a = tt
-  system-told true s a = only-tested C (like (a .p) s) Pll1PUnlikeSystem _ (below (Cause q c) Pll1PUnlikeSystem (omega arith)) tt
+  configured-told : Only C (configured q)
+  unfolding configured
+  configured-told =
+      only-next C (limited q) _ (only-require C (within (q .system) && (within (q .ahb) && (within (q .apb1) && (within (q .apb2) && within (q .apb3))))) AboveLimit (below (Cause q c) AboveLimit (omega arith)))
+      (only-next C (stated q) _ (only-require C (isSet (q .hse) || not (fromHse1 (q .mco1source) || fromHse2 (q .mco2source))) McoHseUnstated (below (Cause q c) McoHseUnstated (omega arith)))
+      (only-next C (systemFits q) _ (only-require C (not (needsPll1 q) || like (pll1Asked q .p) (systemOf q)) Pll1PUnlikeSystem (below (Cause q c) Pll1PUnlikeSystem (omega arith)))
+      (only-require C (not (eqb (sourceOf q) 0)) SourceZero (below (Cause q c) SourceZero (omega arith)))))
 
   plls-told : Only C (pllsOf q c)
   unfolding pllsOf
   plls-told =
       let l : 2 ≤ pllCount c = two-there c in
-      only-next C (limited q) _ (only-require C (within (q .system) && (within (q .ahb) && (within (q .apb1) && (within (q .apb2) && within (q .apb3))))) AboveLimit (below (Cause q c) AboveLimit (omega arith)))
-      (only-next C (stated q) _ (only-require C (isSet (q .hse) || not (fromHse1 (q .mco1source) || fromHse2 (q .mco2source))) McoHseUnstated (below (Cause q c) McoHseUnstated (omega arith)))
-      (only-known C (λ a. a ≡ askedOf q 0) (forSystemClock (needsPll1 q) (systemOf q) (pll1Asked q)) _ (system-told (needsPll1 q) (systemOf q) (pll1Asked q)) (asked-first q)
-      (λ a is. only-next C (sourced q) _ (only-require C (not (eqb (sourceOf q) 0)) SourceZero (below (Cause q c) SourceZero (omega arith)))
-      (only-then C (pllOf (c .odd1) (sourceOf q) a) _ (of-pll 0 a (omega arith) is)
-      (λ x. only-then C (pllOf (c .odd2) (sourceOf q) (pll2Asked q)) _ (of-pll 1 (pll2Asked q) (omega arith) refl)
-      (λ y. only-then C (thirdOf q c) _ third-told (λ z. tt)))))))
+      only-next C (configured q) _ configured-told
+      (only-then C (plannedAt q c 0) _ (of-pll 0 (omega arith))
+      (λ x. only-then C (plannedAt q c 1) _ (of-pll 1 (omega arith))
+      (λ y. only-then C (plannedAt q c 2) _ third-told (λ z. tt))))
 
   pub plan-told : Only C (chosenPlan q c)
   unfolding chosenPlan

@@ -16,12 +16,12 @@ use Rattle.types.specs.declared.Request.{Request}
 use Rattle.types.specs.declared.Refusal.the-variants.{Pll1PUnlikeSystem}
 use Rattle.rules.specs.Document01.Result.{require}
 use Rattle.rules.specs.Document01.Hertz.{isSet, orElse}
-use Rattle.rules.specs.Document01.Request.{pllAt, within, fromHse1, fromHse2, forPll1Q, forSystem, forPll2P, forPll1P, systemAsked, pll1Asked, pll2Asked, sourceOf, systemOf, needsPll1, like, forSystemClock}
+use Rattle.rules.specs.Document01.Request.{pllAt, within, fromHse1, fromHse2, forPll1Q, forSystem, forPll2P, forPll1P, systemAsked, pll1Asked, pll2Asked, sourceOf, systemOf, needsPll1, like, askedOf, systemFits}
 use Rattle.rules.specs.Rust.Run.{panics, ends, is-some, or}
 use Rattle.rules.specs.Rust.Rcc.{Config, set-capped, pll-config, config-of, setters, mco1-source, mco2-source, SysCk, pll1-p-for, sys-ck-from, sys-ck-setup}
 use Rattle.laws.proofs.Tests.{and-left, and-right, by-test, never}
 use Rattle.rules.proofs.Agreement.Numbers.{or-same}
-use Rattle.rules.proofs.Agreement.Agree.{Agree, agree-next}
+use Rattle.rules.proofs.Agreement.Agree.{Agree, agree-on}
 
 -- the config once `sys-ck-setup` is through
 abbrev pub configWith : Request → Hertz → PllRequest → PllRequest → Config
@@ -134,8 +134,8 @@ module _ (q : Request) (sys : Hertz) (a b : PllRequest) (es : List Entry) where
 abbrev pub sysCk : Request → PllRequest → SysCk
 sysCk q asked1 = record { config = configAfter q asked1; sys-ck = systemOf q; sys-use-pll1-p = needsPll1 q }
 
-abbrev pub KeptSys : Request → List Entry → PllRequest → List Entry → SysCk → Type 0
-KeptSys q es a es′ s = (es′ ≡ es) × (s ≡ sysCk q a)
+abbrev pub KeptSys : Request → List Entry → Unit {0} → List Entry → SysCk → Type 0
+KeptSys q es u es′ s = (es′ ≡ es) × (s ≡ sysCk q (askedOf q 0))
 
 -- refusal 5
 p-agrees : (s : ℕ) (h : Hertz) (es : List Entry) → Agree (λ u es′ p. (es′ ≡ es) × (p ≡ Hz s)) (require (like h s) Pll1PUnlikeSystem) (pll1-p-for s h es)
@@ -145,17 +145,17 @@ p-agrees s (Hz p) es =
 
 module _ (q : Request) (es : List Entry) where
   abbrev Goal : Type 0
-  Goal = Agree (KeptSys q es) (forSystemClock (needsPll1 q) (systemOf q) (pll1Asked q)) (sys-ck-setup (configAfter q (pll1Asked q)) es)
+  Goal = Agree (KeptSys q es) (systemFits q) (sys-ck-setup (configAfter q (pll1Asked q)) es)
 
   direct : needsPll1 q ≡ false → Goal
-  unfolding forSystemClock sys-ck-setup sys-ck-from
+  unfolding sys-ck-setup sys-ck-from
   direct f = rw (or-same (q .hse) 32_000_000, or-same (systemAsked q) (sourceOf q), f) (refl, rw f)
 
   through-pll1 : needsPll1 q ≡ true → Goal
-  unfolding forSystemClock sys-ck-setup sys-ck-from
+  unfolding sys-ck-setup sys-ck-from
   through-pll1 t =
       rw (or-same (q .hse) 32_000_000, or-same (systemAsked q) (sourceOf q), t)
-      (agree-next (λ u es′ p. (es′ ≡ es) × (p ≡ Hz (systemOf q))) (KeptSys q es) (require (like (pll1Asked q .p) (systemOf q)) Pll1PUnlikeSystem) (pll1-p-for (systemOf q) (pll1Asked q .p) es) _ _ (p-agrees (systemOf q) (pll1Asked q .p) es)
+      (agree-on (λ u es′ p. (es′ ≡ es) × (p ≡ Hz (systemOf q))) (KeptSys q es) (require (like (pll1Asked q .p) (systemOf q)) Pll1PUnlikeSystem) (pll1-p-for (systemOf q) (pll1Asked q .p) es) _ (p-agrees (systemOf q) (pll1Asked q .p) es)
       (λ u es1 p s. rw (s .0, s .1, t) (refl, refl)))
 
   pub system-agrees : Goal

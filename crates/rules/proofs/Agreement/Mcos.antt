@@ -17,8 +17,8 @@ use Rattle.types.specs.declared.Request.{Request}
 use Rattle.rules.specs.Document01.Result.{ok}
 use Rattle.rules.specs.Document01.Hertz.{ratioOf, isSet, hertzOr}
 use Rattle.rules.specs.Document01.Request.{fromHse1, fromHse2}
-use Rattle.rules.specs.Document01.OnePll.{pClock, qClock}
-use Rattle.rules.specs.Document01.Mco.{Mco, planned, mco1Input, mco2Input, mcoOf}
+use Rattle.rules.specs.Document01.OnePll.{pClock, qClock, pllFrom}
+use Rattle.rules.specs.Document01.Mco.{planned, mco1Input, mco2Input, mcoOf}
 use Rattle.rules.specs.Document01.Plan as R
 use Rattle.rules.specs.Document01.Plan.{mcosOf}
 use Rattle.rules.specs.Rust.Run.{unwrap}
@@ -31,6 +31,9 @@ use Rattle.rules.proofs.Agreement.Agree.{Agree, agree-then}
 use Rattle.rules.proofs.Document01.Span.{pos-of}
 use Rattle.rules.proofs.Agreement.Numbers.{nonzero, ceil-is}
 use Rattle.rules.proofs.Agreement.Config.{configAfter}
+use Rattle.types.specs.declared.Mco.{Mco}
+use Rattle.types.specs.declared.Mcos.{Mcos}
+use Rattle.types.specs.declared.PllPlan.{PllPlan}
 
 abbrev pub prescaledOf : Mco → Prescaled
 prescaledOf m = record { prescaler = m .pre; ck = m .clock }
@@ -79,42 +82,42 @@ hse-there : (h : Hertz) (es : List Entry) → isSet h ≡ true → Agree (Kept e
 hse-there Unset es t = absurd (let z : _≡_ {A = ℕ} 0 1 = cc in omega arith)
 hse-there (Hz h) es t = (refl, refl)
 
-abbrev pub clocksOf : R.Plls → F.Plls
-clocksOf l = record { pll1 = pllClocks (l .pll1); pll2 = pllClocks (l .pll2); pll3 = pllClocks (l .pll3) }
+abbrev pub clocksOf : List PllPlan → F.Plls
+clocksOf l = record { pll1 = pllClocks (pllFrom l 0); pll2 = pllClocks (pllFrom l 1); pll3 = pllClocks (pllFrom l 2) }
 
-mco1-agrees : (s : Mco1Source) (c : Config) (l : R.Plls) (es : List Entry) → (fromHse1 s ≡ true → isSet (c .hse) ≡ true) → Agree (Kept es) (mco1Input s (c .hse) (qClock (l .pll1))) (mco1-in s c (clocksOf l) es)
+mco1-agrees : (s : Mco1Source) (c : Config) (l : List PllPlan) (es : List Entry) → (fromHse1 s ≡ true → isSet (c .hse) ≡ true) → Agree (Kept es) (mco1Input s (c .hse) (qClock (pllFrom l 0))) (mco1-in s c (clocksOf l) es)
 unfolding mco1Input mco1-in
 mco1-agrees Mco1Source.Hsi c l es h = (refl, refl)
 mco1-agrees Mco1Source.Lse c l es h = tt
 mco1-agrees Mco1Source.Hse c l es h = hse-there (c .hse) es (h refl)
-mco1-agrees Mco1Source.Pll1Q c l es h = unwrapped (qClock (l .pll1)) es
+mco1-agrees Mco1Source.Pll1Q c l es h = unwrapped (qClock (pllFrom l 0)) es
 mco1-agrees Mco1Source.Hsi48 c l es h = (refl, refl)
 
-mco2-agrees : (s : Mco2Source) (system : ℕ) (c : Config) (l : R.Plls) (es : List Entry) → (fromHse2 s ≡ true → isSet (c .hse) ≡ true) → Agree (Kept es) (mco2Input s system (c .hse) (pClock (l .pll1)) (pClock (l .pll2))) (mco2-in s system c (clocksOf l) es)
+mco2-agrees : (s : Mco2Source) (system : ℕ) (c : Config) (l : List PllPlan) (es : List Entry) → (fromHse2 s ≡ true → isSet (c .hse) ≡ true) → Agree (Kept es) (mco2Input s system (c .hse) (pClock (pllFrom l 0)) (pClock (pllFrom l 1))) (mco2-in s system c (clocksOf l) es)
 unfolding mco2Input mco2-in
 mco2-agrees Mco2Source.Sysclk system c l es h = (refl, refl)
-mco2-agrees Mco2Source.Pll2P system c l es h = unwrapped (pClock (l .pll2)) es
+mco2-agrees Mco2Source.Pll2P system c l es h = unwrapped (pClock (pllFrom l 1)) es
 mco2-agrees Mco2Source.Hse system c l es h = hse-there (c .hse) es (h refl)
-mco2-agrees Mco2Source.Pll1P system c l es h = unwrapped (pClock (l .pll1)) es
+mco2-agrees Mco2Source.Pll1P system c l es h = unwrapped (pClock (pllFrom l 0)) es
 mco2-agrees Mco2Source.Csi system c l es h = (refl, refl)
 mco2-agrees Mco2Source.Lsi system c l es h = (refl, refl)
 
 -- ---- both
-abbrev pub mcosRust : R.Mcos → F.Mcos
+abbrev pub mcosRust : Mcos → F.Mcos
 mcosRust m = record { mco1 = prescaledOf (m .mco1); mco2 = prescaledOf (m .mco2) }
 
-abbrev pub KeptMcos : List Entry → R.Mcos → List Entry → F.Mcos → Type 0
+abbrev pub KeptMcos : List Entry → Mcos → List Entry → F.Mcos → Type 0
 KeptMcos es m es′ r = (es′ ≡ es) × (r ≡ mcosRust m)
 
-pub mcos-agree : (q : Request) (asked1 : PllRequest) (l : R.Plls) (system : ℕ) (es : List Entry) → (fromHse1 (q .mco1source) ≡ true → isSet (q .hse) ≡ true) → (fromHse2 (q .mco2source) ≡ true → isSet (q .hse) ≡ true) → Agree (KeptMcos es) (mcosOf q l system) (mcos-calculate system (configAfter q asked1) (clocksOf l) es)
+pub mcos-agree : (q : Request) (asked1 : PllRequest) (l : List PllPlan) (system : ℕ) (es : List Entry) → (fromHse1 (q .mco1source) ≡ true → isSet (q .hse) ≡ true) → (fromHse2 (q .mco2source) ≡ true → isSet (q .hse) ≡ true) → Agree (KeptMcos es) (mcosOf q l system) (mcos-calculate system (configAfter q asked1) (clocksOf l) es)
 unfolding mcosOf mcos-calculate
 mcos-agree q asked1 l system es h1 h2 =
     let c : Config = configAfter q asked1 in
-    agree-then (Kept es) (KeptMcos es) (mco1Input (q .mco1source) (q .hse) (qClock (l .pll1))) (mco1-in (q .mco1source) c (clocksOf l) es) _ _ (mco1-agrees (q .mco1source) c l es h1)
+    agree-then (Kept es) (KeptMcos es) (mco1Input (q .mco1source) (q .hse) (qClock (pllFrom l 0))) (mco1-in (q .mco1source) c (clocksOf l) es) _ _ (mco1-agrees (q .mco1source) c l es h1)
     (λ a1 es1 b1 s1. rw (s1 .0, s1 .1)
     (agree-then (KeptMco es) (KeptMcos es) (mcoOf a1 (q .mco1)) (calculate-prescaler a1 (q .mco1) es) _ _ (prescaler-agrees a1 (q .mco1) es)
     (λ m1 es2 p1 s2. rw (s2 .0, s2 .1)
-    (agree-then (Kept es) (KeptMcos es) (mco2Input (q .mco2source) system (q .hse) (pClock (l .pll1)) (pClock (l .pll2))) (mco2-in (q .mco2source) system c (clocksOf l) es) _ _ (mco2-agrees (q .mco2source) system c l es h2)
+    (agree-then (Kept es) (KeptMcos es) (mco2Input (q .mco2source) system (q .hse) (pClock (pllFrom l 0)) (pClock (pllFrom l 1))) (mco2-in (q .mco2source) system c (clocksOf l) es) _ _ (mco2-agrees (q .mco2source) system c l es h2)
     (λ a2 es3 b2 s3. rw (s3 .0, s3 .1)
     (agree-then (KeptMco es) (KeptMcos es) (mcoOf a2 (q .mco2)) (calculate-prescaler a2 (q .mco2) es) _ _ (prescaler-agrees a2 (q .mco2) es)
     (λ m2 es4 p2 s4. (s4 .0, ap (λ (x : Prescaled). record { mco1 = prescaledOf m1; mco2 = x }) (s4 .1)))))))))

@@ -18,29 +18,30 @@ use Rattle.types.specs.declared.ChipState.{ChipState}
 use Rattle.rules.specs.Document01.Result as Rules
 use Rattle.rules.specs.Document01.Result.{Result, refused, ok, require}
 use Rattle.rules.specs.Document01.Hertz.{isSet}
-use Rattle.rules.specs.Document01.Request.{forPll1Q, pllAt, within, fromHse1, fromHse2, pll1Asked, pll2Asked, sourceOf, systemOf, needsPll1, withP, askedOf, forSystemClock, sourced, like}
+use Rattle.rules.specs.Document01.Request.{forPll1Q, pllAt, within, fromHse1, fromHse2, pll1Asked, pll2Asked, sourceOf, systemOf, needsPll1, withP, askedOf, sourced, like, systemFits, configured, limited, stated}
 use Rattle.types.specs.declared.Refusal.the-variants.{NOutside, Pll1PUnlikeSystem}
-use Rattle.rules.specs.Document01.OnePll.{Range, settingsOf, vcoBy, outputOf, clockOf, pClock, spanned, dividedBy, settled, fractionOf, allowedP, dividerP, runs, running, pllOf, rangeFor, targetFor, firstOf}
+use Rattle.rules.specs.Document01.OnePll.{Range, settingsOf, vcoBy, outputOf, clockOf, pClock, spanned, dividedBy, settled, fractionOf, allowedP, dividerP, runs, running, pllOf, rangeFor, targetFor, firstOf, pllFrom}
 use Rattle.rules.specs.Document01.Entries.{setupEntries}
 use Rattle.rules.specs.Document01.Plan as R
-use Rattle.rules.specs.Document01.Plan.{thirdOf, pllsOf}
+use Rattle.rules.specs.Document01.Plan.{pllsOf, plannedAt, byNumber}
 use Rattle.rules.specs.Rust.Run.{Outcome, panics, ends, Run, continue}
 use Rattle.rules.specs.Rust.CoreClocks.{PllClocks}
 use Rattle.rules.specs.Rust.Pll.{pll-setup}
 use Rattle.rules.specs.Rust.Rcc as F
 use Rattle.rules.specs.Rust.Rcc.{Config, SysCk, pll-config, config-of, setters, mco1-setup, mco2-setup, sys-ck-setup, if-rm0481, no-pll, plls-setup}
 use Rattle.rules.specs.Demands.Report.{pllClocks}
-use Rattle.rules.specs.Demands.Agreement.{oddP, pllCount, WrittenAt, Departure}
+use Rattle.rules.specs.Demands.Agreement.{pllCount, WrittenAt, Departure}
 use Rattle.laws.proofs.Tests.{by-test, never, or-false, or-true}
-use Rattle.rules.proofs.Document01.Results.{Holds, holds-then, holds-next, holds-both}
-use Rattle.rules.proofs.Legal.Plan.{asked-first}
+use Rattle.rules.proofs.Document01.Results.{Holds, holds-then, holds-next, regroup}
 use Rattle.rules.proofs.Agreement.Keeps.{ending, sets-up, laws}
-use Rattle.rules.proofs.Agreement.Agree.{noEnd, AgreeOrDepart, departs-still, departs-too, agree-then-depart, depart-then, agree-holds, agree-map}
+use Rattle.rules.proofs.Agreement.Agree.{AgreeOrDepart, departs-still, departs-too, depart-then, agree-next, agree-holds, agree-map}
 use Rattle.rules.proofs.Document01.Span.{pos-of}
 use Rattle.rules.proofs.Agreement.Numbers.{or-same}
 use Rattle.rules.proofs.Agreement.Config.{configAfter, configWith, setters-end, setters-panic, fillQ, mco1-fills, mco1-panics, mco2-fills, mco2-panics, sysCk, KeptSys, system-agrees}
 use Rattle.rules.proofs.Agreement.Mcos.{clocksOf}
 use Rattle.rules.proofs.Agreement.OnePll.{SamePll, pll-agrees, source-panics}
+use Rattle.types.specs.declared.PllPlan.{PllPlan}
+use Rattle.rules.specs.Document01.Chip.{oddAt}
 
 -- ---- a PLL whose P is requested reports one
 p-of : (target vco : ℕ) (h : Hertz) → isSet h ≡ true → isSet (clockOf (outputOf target vco h)) ≡ true
@@ -76,10 +77,8 @@ unfolding pllOf
 pll-p odd source a t = rw (or-true (isSet (a .p)) (isSet (a .q) || isSet (a .r)) t) (running-p (runs odd source a) (runs-p odd source a t))
 
 -- where the system clock needs PLL1, P is requested of it
-asked-p : (needed : Bool) (s : ℕ) (a : PllRequest) → Holds (λ (b : PllRequest). needed ≡ true → isSet (b .p) ≡ true) (forSystemClock needed s a)
-unfolding forSystemClock
-asked-p false s a = λ e. absurd (never (sym e))
-asked-p true s a = holds-next (λ (b : PllRequest). true ≡ true → isSet (b .p) ≡ true) (require (like (a .p) s) Pll1PUnlikeSystem) (ok (withP a s)) (λ e. refl)
+asked-p : (q : Request) → needsPll1 q ≡ true → isSet (askedOf q 0 .p) ≡ true
+asked-p q t = rw t
 
 -- ---- up to `plls-setup`: what the Rust then has
 pub record Ready : Type 0 where
@@ -106,31 +105,30 @@ pub record Stated (q : Request) : Type 0 where
   pub one : fromHse1 (q .mco1source) ≡ true → isSet (q .hse) ≡ true
   pub two : fromHse2 (q .mco2source) ≡ true → isSet (q .hse) ≡ true
 
-pub record SameReady (q : Request) (c : ChipState) (l : R.Plls) (es : List Entry) (r : Ready) : Type 0 where
-  pub asked1 : PllRequest
-  pub entries : es ≡ setupEntries 0 (l .pll1) ++ (setupEntries 1 (l .pll2) ++ setupEntries 2 (l .pll3))
-  pub value : r ≡ record { s = sysCk q asked1; plls = clocksOf l }
-  pub needed : needsPll1 q ≡ true → isSet (pClock (l .pll1)) ≡ true
-  pub third : c .three ≡ false → l .pll3 ≡ Idle
+pub record SameReady (q : Request) (c : ChipState) (l : List PllPlan) (es : List Entry) (r : Ready) : Type 0 where
+  pub entries : es ≡ setupEntries 0 (pllFrom l 0) ++ (setupEntries 1 (pllFrom l 1) ++ setupEntries 2 (pllFrom l 2))
+  pub value : r ≡ record { s = sysCk q (askedOf q 0); plls = clocksOf l }
+  pub needed : needsPll1 q ≡ true → isSet (pClock (pllFrom l 0)) ≡ true
+  pub third : c .three ≡ false → pllFrom l 2 ≡ Idle
   pub states : Stated q
 
 -- ---- the PLLs
-third-idle : (q : Request) (c : ChipState) → Holds (λ (x : Pll). c .three ≡ false → x ≡ Idle) (thirdOf q c)
+third-idle : (q : Request) (c : ChipState) → Holds (λ (x : Pll). c .three ≡ false → x ≡ Idle) (plannedAt q c 2)
 third-idle q c =
     by-test (c .three)
-    (λ (t : c .three ≡ true). holds-any (thirdOf q c) (λ x e. absurd (never (sym t ∙ e))))
+    (λ (t : c .three ≡ true). holds-any (plannedAt q c 2) (λ x e. absurd (never (sym t ∙ e))))
     (λ (f : c .three ≡ false). rw f (λ e. refl))
   where
     holds-any : (x : Result Pll) → ((y : Pll) → c .three ≡ false → y ≡ Idle) → Holds (λ (y : Pll). c .three ≡ false → y ≡ Idle) x
     holds-any (refused n) h = tt
     holds-any (ok y) h = h y
 
--- PLL k of the chip agrees, where so much is asked of it
-pll-departs : (q : Request) (c : ChipState) (k : ℕ) (a : PllRequest) (es : List Entry) → k < pllCount c → a ≡ askedOf q k → 1 ≤ sourceOf q → AgreeOrDepart q c (SamePll k es) (pllOf (oddP c k) (sourceOf q) a) (pll-setup k (oddP c k) (sourceOf q) (pll-config a) es)
-pll-departs q c k a es l is h =
-    departs-too (WrittenAt k (oddP c k) a) (Departure q c) (SamePll k es) (pllOf (oddP c k) (sourceOf q) a) (pll-setup k (oddP c k) (sourceOf q) (pll-config a) es)
-    (λ n es′ d. record { pll = k; there = l; at = subst (λ (b : PllRequest). WrittenAt k (oddP c k) b n es′) is d })
-    (pll-agrees k (sourceOf q) a (oddP c k) es h)
+-- PLL k of the chip agrees
+pll-departs : (q : Request) (c : ChipState) (k : ℕ) (es : List Entry) → k < pllCount c → 1 ≤ sourceOf q → AgreeOrDepart q c (SamePll k es) (pllOf (oddAt c k) (sourceOf q) (askedOf q k)) (pll-setup k (oddAt c k) (sourceOf q) (pll-config (askedOf q k)) es)
+pll-departs q c k es l h =
+    departs-too (WrittenAt k (oddAt c k) (askedOf q k)) (Departure q c) (SamePll k es) (pllOf (oddAt c k) (sourceOf q) (askedOf q k)) (pll-setup k (oddAt c k) (sourceOf q) (pll-config (askedOf q k)) es)
+    (λ n es′ d. record { pll = k; there = l; at = d })
+    (pll-agrees k (sourceOf q) (askedOf q k) (oddAt c k) es h)
 
 -- each chip has two
 pub two-there : (c : ChipState) → 2 ≤ pllCount c
@@ -140,37 +138,35 @@ two-there c = go (c .three)
     go true = omega arith
     go false = omega arith
 
-third-agrees : (q : Request) (c : ChipState) (es : List Entry) → 1 ≤ sourceOf q → (three : Bool) → c .three ≡ three → AgreeOrDepart q c (SamePll 2 es) (cond three (pllOf (c .odd3) (sourceOf q) (pllAt q 2)) (ok Idle)) (if-rm0481 three (pll-setup 2 (c .odd3) (sourceOf q) (pll-config (pllAt q 2))) no-pll es)
-third-agrees q c es h true t = pll-departs q c 2 (pllAt q 2) es (rw t (omega arith)) refl h
+third-agrees : (q : Request) (c : ChipState) (es : List Entry) → 1 ≤ sourceOf q → (three : Bool) → c .three ≡ three → AgreeOrDepart q c (SamePll 2 es) (cond three (pllOf (oddAt c 2) (sourceOf q) (askedOf q 2)) (ok Idle)) (if-rm0481 three (pll-setup 2 (oddAt c 2) (sourceOf q) (pll-config (askedOf q 2))) no-pll es)
+third-agrees q c es h true t = pll-departs q c 2 es (rw t (omega arith)) h
 third-agrees q c es h false t = (sym (append-nil es), refl)
 
-abbrev rulesFrom : Request → ChipState → PllRequest → Result R.Plls
-rulesFrom q c asked1 =
-    Rules._>>=_ (pllOf (c .odd1) (sourceOf q) asked1) (λ pll1.
-    Rules._>>=_ (pllOf (c .odd2) (sourceOf q) (pll2Asked q)) (λ pll2.
-    Rules._>>=_ (thirdOf q c) (λ pll3. ok (record { pll1 = pll1; pll2 = pll2; pll3 = pll3 }))))
+abbrev rules : Request → ChipState → Result (List PllPlan)
+rules q c =
+    Rules._>>=_ (plannedAt q c 0) (λ pll1.
+    Rules._>>=_ (plannedAt q c 1) (λ pll2.
+    Rules._>>=_ (plannedAt q c 2) (λ pll3. ok (byNumber pll1 pll2 pll3))))
 
-module _ (q : Request) (c : ChipState) (st : Stated q) (asked1 : PllRequest) (p1 : needsPll1 q ≡ true → isSet (asked1 .p) ≡ true) (is : asked1 ≡ askedOf q 0) where
+module _ (q : Request) (c : ChipState) (st : Stated q) where
   abbrev source : ℕ
   source = sourceOf q
 
-  abbrev rules : Result R.Plls
-  rules = rulesFrom q c asked1
-
   -- 6
-  no-source : eqb source 0 ≡ true → AgreeOrDepart q c (SameReady q c) (Rules._>>_ (sourced q) rules) (afterSys c (sysCk q asked1) [])
+  no-source : eqb source 0 ≡ true → AgreeOrDepart q c (SameReady q c) (Rules._>>_ (sourced q) (rules q c)) (afterSys c (sysCk q (askedOf q 0)) [])
   unfolding plls-setup
   no-source t =
       let e : source ≡ 0 = eqb-true source 0 t in
-      rw (t, or-same (q .hse) 32_000_000, e, source-panics 0 asked1 (c .odd1) []) tt
+      let none : pll-setup 0 (oddAt c 0) source (pll-config (askedOf q 0)) [] ≡ panics = subst (λ (s : ℕ). pll-setup 0 (oddAt c 0) s (pll-config (askedOf q 0)) [] ≡ panics) (sym e) (source-panics 0 (askedOf q 0) (oddAt c 0) []) in
+      rw (t, or-same (q .hse) 32_000_000, none) tt
 
   -- 7 to 15, for each PLL
-  abbrev SamePlls : R.Plls → List Entry → F.Plls → Type 0
+  abbrev SamePlls : List PllPlan → List Entry → F.Plls → Type 0
   SamePlls l es r =
-      (es ≡ setupEntries 0 (l .pll1) ++ (setupEntries 1 (l .pll2) ++ setupEntries 2 (l .pll3)))
+      (es ≡ setupEntries 0 (pllFrom l 0) ++ (setupEntries 1 (pllFrom l 1) ++ setupEntries 2 (pllFrom l 2)))
       × (r ≡ clocksOf l)
-      × (needsPll1 q ≡ true → isSet (pClock (l .pll1)) ≡ true)
-      × (c .three ≡ false → l .pll3 ≡ Idle)
+      × (needsPll1 q ≡ true → isSet (pClock (pllFrom l 0)) ≡ true)
+      × (c .three ≡ false → pllFrom l 2 ≡ Idle)
 
   abbrev Needed : Pll → Type 0
   Needed x = needsPll1 q ≡ true → isSet (pClock x) ≡ true
@@ -178,8 +174,8 @@ module _ (q : Request) (c : ChipState) (st : Stated q) (asked1 : PllRequest) (p1
   abbrev Third : Pll → Type 0
   Third x = c .three ≡ false → x ≡ Idle
 
-  needed-p : Holds Needed (pllOf (c .odd1) source asked1)
-  needed-p = by-test (needsPll1 q) (λ (t : needsPll1 q ≡ true). weaken (pllOf (c .odd1) source asked1) (pll-p (c .odd1) source asked1 (p1 t))) (λ (f : needsPll1 q ≡ false). vacuous (pllOf (c .odd1) source asked1) f)
+  needed-p : Holds Needed (plannedAt q c 0)
+  needed-p = by-test (needsPll1 q) (λ (t : needsPll1 q ≡ true). weaken (plannedAt q c 0) (pll-p (oddAt c 0) source (askedOf q 0) (asked-p q t))) (λ (f : needsPll1 q ≡ false). vacuous (plannedAt q c 0) f)
     where
       weaken : (x : Result Pll) → Holds HasP x → Holds Needed x
       weaken (refused n) h = tt
@@ -189,29 +185,32 @@ module _ (q : Request) (c : ChipState) (st : Stated q) (asked1 : PllRequest) (p1
       vacuous (refused n) f = tt
       vacuous (ok y) f = λ e. absurd (never (sym e ∙ f))
 
-  plls-agree : 1 ≤ source → AgreeOrDepart q c SamePlls rules (plls-setup c (configAfter q asked1) [])
+  abbrev rust : (k : ℕ) → Run PllClocks
+  rust k = pll-setup k (oddAt c k) source (pll-config (askedOf q k))
+
+  plls-agree : 1 ≤ source → AgreeOrDepart q c SamePlls (rules q c) (plls-setup c (configAfter q (askedOf q 0)) [])
   unfolding plls-setup
   plls-agree h =
       rw (or-same (q .hse) 32_000_000)
-      (depart-then (λ x es b. SamePll 0 [] x es b × Needed x) SamePlls (pllOf (c .odd1) source asked1) (pll-setup 0 (c .odd1) source (pll-config asked1) []) _ _ (Departure q c)
-      (agree-holds (Departure q c) (SamePll 0 []) Needed (pllOf (c .odd1) source asked1) (pll-setup 0 (c .odd1) source (pll-config asked1) []) (pll-departs q c 0 asked1 [] (let l = two-there c in omega arith) is h) needed-p)
+      (depart-then (λ x es b. SamePll 0 [] x es b × Needed x) SamePlls (plannedAt q c 0) (rust 0 []) _ _ (Departure q c)
+      (agree-holds (Departure q c) (SamePll 0 []) Needed (plannedAt q c 0) (rust 0 []) (pll-departs q c 0 [] (let l = two-there c in omega arith) h) needed-p)
       (λ n es b d. search (laws, sets-up, departs-still q c n))
       (λ x1 es1 b1 s1. rw (s1 .0 .0, s1 .0 .1)
-      (depart-then (SamePll 1 (setupEntries 0 x1)) SamePlls (pllOf (c .odd2) source (pll2Asked q)) (pll-setup 1 (c .odd2) source (pll-config (pll2Asked q)) (setupEntries 0 x1)) _ _ (Departure q c) (pll-departs q c 1 (pll2Asked q) (setupEntries 0 x1) (let l = two-there c in omega arith) refl h)
+      (depart-then (SamePll 1 (setupEntries 0 x1)) SamePlls (plannedAt q c 1) (rust 1 (setupEntries 0 x1)) _ _ (Departure q c) (pll-departs q c 1 (setupEntries 0 x1) (let l = two-there c in omega arith) h)
       (λ n es b d. search (laws, sets-up, departs-still q c n))
       (λ x2 es2 b2 s2. rw (s2 .0, s2 .1)
-      (depart-then (λ x es b. SamePll 2 (setupEntries 0 x1 ++ setupEntries 1 x2) x es b × Third x) SamePlls (thirdOf q c) (if-rm0481 (c .three) (pll-setup 2 (c .odd3) source (pll-config (pllAt q 2))) no-pll (setupEntries 0 x1 ++ setupEntries 1 x2)) _ _ (Departure q c)
-      (agree-holds (Departure q c) (SamePll 2 (setupEntries 0 x1 ++ setupEntries 1 x2)) Third (thirdOf q c) (if-rm0481 (c .three) (pll-setup 2 (c .odd3) source (pll-config (pllAt q 2))) no-pll (setupEntries 0 x1 ++ setupEntries 1 x2)) (third-agrees q c (setupEntries 0 x1 ++ setupEntries 1 x2) h (c .three) refl) (third-idle q c))
+      (depart-then (λ x es b. SamePll 2 (setupEntries 0 x1 ++ setupEntries 1 x2) x es b × Third x) SamePlls (plannedAt q c 2) (if-rm0481 (c .three) (rust 2) no-pll (setupEntries 0 x1 ++ setupEntries 1 x2)) _ _ (Departure q c)
+      (agree-holds (Departure q c) (SamePll 2 (setupEntries 0 x1 ++ setupEntries 1 x2)) Third (plannedAt q c 2) (if-rm0481 (c .three) (rust 2) no-pll (setupEntries 0 x1 ++ setupEntries 1 x2)) (third-agrees q c (setupEntries 0 x1 ++ setupEntries 1 x2) h (c .three) refl) (third-idle q c))
       (λ n es b d. ending d)
       (λ x3 es3 b3 s3. (s3 .0 .0 ∙ append-assoc (setupEntries 0 x1) (setupEntries 1 x2) (setupEntries 2 x3), ap (λ (z : PllClocks). record { pll1 = pllClocks x1; pll2 = pllClocks x2; pll3 = z }) (s3 .0 .1), s1 .1, s3 .1)))))))
 
-  some-source : eqb source 0 ≡ false → AgreeOrDepart q c (SameReady q c) (Rules._>>_ (sourced q) rules) (afterSys c (sysCk q asked1) [])
+  some-source : eqb source 0 ≡ false → AgreeOrDepart q c (SameReady q c) (Rules._>>_ (sourced q) (rules q c)) (afterSys c (sysCk q (askedOf q 0)) [])
   some-source f =
       rw f
-      (agree-map (Departure q c) SamePlls (SameReady q c) rules (plls-setup c (configAfter q asked1) []) (λ l. record { s = sysCk q asked1; plls = l }) (plls-agree (pos-of source f))
-      (λ l es r h. record { asked1 = asked1; entries = h .0; value = ap (λ (z : F.Plls). record { s = sysCk q asked1; plls = z }) (h .1); needed = h .2; third = h .3; states = st }))
+      (agree-map (Departure q c) SamePlls (SameReady q c) (rules q c) (plls-setup c (configAfter q (askedOf q 0)) []) (λ l. record { s = sysCk q (askedOf q 0); plls = l }) (plls-agree (pos-of source f))
+      (λ l es r h. record { entries = h .0; value = ap (λ (z : F.Plls). record { s = sysCk q (askedOf q 0); plls = z }) (h .1); needed = h .2; third = h .3; states = st }))
 
-  pub after-sys : AgreeOrDepart q c (SameReady q c) (Rules._>>_ (sourced q) rules) (afterSys c (sysCk q asked1) [])
+  pub after-sys : AgreeOrDepart q c (SameReady q c) (Rules._>>_ (sourced q) (rules q c)) (afterSys c (sysCk q (askedOf q 0)) [])
   after-sys = by-test (eqb source 0) no-source some-source
 
 -- ---- the MCOs' HSE, and refusal 4
@@ -244,26 +243,20 @@ module _ (q : Request) (c : ChipState) where
       let two : fromHse2 (q .mco2source) ≡ true = rw n at some in
       rw (mco1-fills q (q .system) (pllAt q 0) (pllAt q 1) [] (q .mco1source) (λ e. absurd (never (sym e ∙ n))), mco2-panics q (q .system) filled1 (pllAt q 1) [] (q .mco2source) two (u .0)))
 
-  abbrev afterFill : Result R.Plls
-  afterFill = Rules._>>=_ (forSystemClock (needsPll1 q) (systemOf q) (pll1Asked q)) (λ asked1. Rules._>>_ (sourced q) (rulesFrom q c asked1))
-
-  abbrev P1 : PllRequest → Type 0
-  P1 a = (needsPll1 q ≡ true → isSet (a .p) ≡ true) × (a ≡ askedOf q 0)
-
-  filled-agrees : Stated q → AgreeOrDepart q c (SameReady q c) afterFill (afterMco2 c (configAfter q (pll1Asked q)) [])
+  filled-agrees : Stated q → AgreeOrDepart q c (SameReady q c) (Rules._>>_ (systemFits q) (Rules._>>_ (sourced q) (rules q c))) (afterMco2 c (configAfter q (pll1Asked q)) [])
   filled-agrees st =
-      agree-then-depart (λ a es s. KeptSys q [] a es s × P1 a) (SameReady q c) (forSystemClock (needsPll1 q) (systemOf q) (pll1Asked q)) (sys-ck-setup (configAfter q (pll1Asked q)) []) _ _ (Departure q c)
-      (agree-holds noEnd (KeptSys q []) P1 (forSystemClock (needsPll1 q) (systemOf q) (pll1Asked q)) (sys-ck-setup (configAfter q (pll1Asked q)) []) (system-agrees q []) (holds-both (λ (a : PllRequest). needsPll1 q ≡ true → isSet (a .p) ≡ true) (λ (a : PllRequest). a ≡ askedOf q 0) (forSystemClock (needsPll1 q) (systemOf q) (pll1Asked q)) (asked-p (needsPll1 q) (systemOf q) (pll1Asked q)) (asked-first q)))
-      (λ a es s h. rw (h .0 .0, h .0 .1) (after-sys q c st a (h .1 .0) (h .1 .1)))
+      agree-next (Departure q c) (KeptSys q []) (SameReady q c) (systemFits q) (sys-ck-setup (configAfter q (pll1Asked q)) []) _ _ (system-agrees q [])
+      (λ u es s h. rw (h .0, h .1) (after-sys q c st))
 
   pub plls-ready : AgreeOrDepart q c (SameReady q c) (pllsOf q c) (ready q c)
-  unfolding pllsOf
+  unfolding pllsOf configured
   plls-ready =
-      by-test (within (q .system) && (within (q .ahb) && (within (q .apb1) && (within (q .apb2) && within (q .apb3)))))
+      rw (regroup (limited q) (stated q) (systemFits q) (sourced q) (rules q c))
+      (by-test (within (q .system) && (within (q .ahb) && (within (q .apb1) && (within (q .apb2) && within (q .apb3)))))
       (λ (t : within (q .system) && (within (q .ahb) && (within (q .apb1) && (within (q .apb2) && within (q .apb3)))) ≡ true).
       by-test (isSet (q .hse) || not (fromHse1 (q .mco1source) || fromHse2 (q .mco2source)))
       (λ (s : isSet (q .hse) || not (fromHse1 (q .mco1source) || fromHse2 (q .mco2source)) ≡ true).
       let h = hse-stated (isSet (q .hse)) (fromHse1 (q .mco1source)) (fromHse2 (q .mco2source)) s in
       rw (t, s, setters-end q [] t, mco1-ends (h .0), mco2-ends (h .1)) (filled-agrees (record { one = h .0; two = h .1 })))
       (λ (f : isSet (q .hse) || not (fromHse1 (q .mco1source) || fromHse2 (q .mco2source)) ≡ false). rw (t, f, setters-end q [] t, unstated f) tt))
-      (λ (f : within (q .system) && (within (q .ahb) && (within (q .apb1) && (within (q .apb2) && within (q .apb3)))) ≡ false). rw (f, setters-panic q [] f) tt)
+      (λ (f : within (q .system) && (within (q .ahb) && (within (q .apb1) && (within (q .apb2) && within (q .apb3)))) ≡ false). rw (f, setters-panic q [] f) tt))

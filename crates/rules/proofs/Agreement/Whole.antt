@@ -24,13 +24,13 @@ use Rattle.rules.specs.Document01.Result as Rules
 use Rattle.rules.specs.Document01.Result.{Result, refused, ok, require}
 use Rattle.rules.specs.Document01.Hertz.{isSet, hertzOr}
 use Rattle.rules.specs.Document01.Fields
-use Rattle.rules.specs.Document01.Request.{sourceOf, systemOf, needsPll1}
-use Rattle.rules.specs.Document01.OnePll.{pClock}
+use Rattle.rules.specs.Document01.Request.{sourceOf, systemOf, needsPll1, askedOf}
+use Rattle.rules.specs.Document01.OnePll.{pClock, pllFrom}
 use Rattle.rules.specs.Document01.Buses.{peripheralOf}
 use Rattle.rules.specs.Document01.Flash.{flashOf}
 use Rattle.rules.specs.Document01.Plan as R
 use Rattle.rules.specs.Document01.Plan.{systemFrom, pllsOf, hsiReady, busesOf, mcosOf, planWith, chosenPlan, answered, answerTo, swOf}
-use Rattle.rules.specs.Document01.Entries.{setupEntries, clockEntries, hseEntries, busEntries, planEntries, entriesOf}
+use Rattle.rules.specs.Document01.Entries.{setupEntries, clockEntries, hseEntries, busEntries, planEntries, entriesOf, listWith}
 use Rattle.rules.specs.Rust.Run.{Outcome, panics, ends, Run, continue, assert, unwrap, is-some}
 use Rattle.rules.specs.Rust.Rcc as F
 use Rattle.rules.specs.Rust.CoreClocks.{CoreClocks}
@@ -50,16 +50,19 @@ use Rattle.rules.proofs.Agreement.Causes.{Told, plan-told}
 use Rattle.rules.proofs.Agreement.Allowed.{plan-allowed}
 use Rattle.rules.proofs.Agreement.Split.{afterAsserts, rest, rest-keeps, frozen-parts}
 use Rattle.rules.proofs.Agreement.Writes.{clockTail, clocks-end, pllTail, plls-end}
+use Rattle.types.specs.declared.Buses.{Buses}
+use Rattle.types.specs.declared.Mcos.{Mcos}
+use Rattle.types.specs.declared.PllPlan.{PllPlan}
 
 -- ---- the system clock
 unwrap-set : (h : Hertz) (es : List Entry) → isSet h ≡ true → unwrap h es ≡ ends es (hertzOr h 0)
 unwrap-set Unset es t = absurd (let z : _≡_ {A = ℕ} 0 1 = cc in omega arith)
 unwrap-set (Hz h) es t = refl
 
-system-ends : (q : Request) (asked1 : PllRequest) (l : R.Plls) (es : List Entry) → (needsPll1 q ≡ true → isSet (pClock (l .pll1)) ≡ true) → sys-ck-of (sysCk q asked1) (clocksOf l) es ≡ ends es (systemFrom q l)
+system-ends : (q : Request) (asked1 : PllRequest) (l : List PllPlan) (es : List Entry) → (needsPll1 q ≡ true → isSet (pClock (pllFrom l 0)) ≡ true) → sys-ck-of (sysCk q asked1) (clocksOf l) es ≡ ends es (systemFrom q l)
 system-ends q asked1 l es h =
     by-test (needsPll1 q)
-    (λ (t : needsPll1 q ≡ true). rw (t, unwrap-set (pClock (l .pll1)) es (h t)))
+    (λ (t : needsPll1 q ≡ true). rw (t, unwrap-set (pClock (pllFrom l 0)) es (h t)))
     (λ (f : needsPll1 q ≡ false). let e : systemOf q ≡ sourceOf q = eqb-true (systemOf q) (sourceOf q) (not-false (eqb (systemOf q) (sourceOf q)) f) in rw f (ap (λ (x : ℕ). ends es x) e))
 
 -- ---- the peripheral clock and SW
@@ -84,12 +87,16 @@ sw-is true h = refl
 sw-is false Unset = refl
 sw-is false (Hz h) = refl
 
+-- three lists in a group, and what follows them
+grouped : (a b c r : List Entry) → a ++ (b ++ (c ++ r)) ≡ (a ++ (b ++ c)) ++ r
+grouped a b c r = sym (append-assoc a (b ++ c) r ∙ ap (λ (x : List Entry). a ++ x) (append-assoc b c r))
+
 -- ---- what is written last, and what is returned
-module _ (q : Request) (c : ChipState) (asked1 : PllRequest) (l : R.Plls) (b : R.Buses) (m : R.Mcos) (es : List Entry) (rb : F.Buses) (same : SameBuses es b es rb) where
+module _ (q : Request) (c : ChipState) (asked1 : PllRequest) (l : List PllPlan) (b : Buses) (m : Mcos) (es : List Entry) (rb : F.Buses) (same : SameBuses es b es rb) where
   abbrev plan : Plan
   plan = planWith q c l b m
 
-  switch-ends : (at : List Entry) → switch-clocks (configAfter q asked1) (needsPll1 q) rb (match-per-ck (q .peripheral) (q .hse) .ckpersel) DefaultX2 at ≡ ends (at ++ busEntries plan) tt
+  switch-ends : (at : List Entry) → switch-clocks (configAfter q asked1) (needsPll1 q) rb (match-per-ck (q .peripheral) (q .hse) .ckpersel) DefaultX2 at ≡ ends (at ++ busEntries (plan .buses) (plan .selectors)) tt
   unfolding switch-clocks busEntries planWith
   switch-ends at =
       rw (same .hclk, same .pclk1 .pre, same .pclk2 .pre, same .pclk3 .pre, sw-is (needsPll1 q) (q .hse), per-sel (q .peripheral) (q .hse))
@@ -102,17 +109,17 @@ module _ (q : Request) (c : ChipState) (asked1 : PllRequest) (l : R.Plls) (b : R
 
   -- the whole list
   abbrev setups : List Entry
-  setups = setupEntries 0 (l .pll1) ++ (setupEntries 1 (l .pll2) ++ setupEntries 2 (l .pll3))
+  setups = setupEntries 0 (pllFrom l 0) ++ (setupEntries 1 (pllFrom l 1) ++ setupEntries 2 (pllFrom l 2))
 
-  list-is : (((setups ++ (Set Fields.LSION 1 ∷ [])) ++ (Wait Fields.LSIRDY 1 ∷ [])) ++ (clockTail (flashOf (c .scale) (rb .hclk .rcc-hclk)) q m ++ hseEntries (q .hse) (q .bypass))) ++ pllTail q (c .three) l ++ busEntries plan ≡ planEntries plan
-  unfolding planEntries clockEntries planWith
-  list-is = rw (same .hclk) (simp append-assoc)
+  list-is : (((setups ++ (Set Fields.LSION 1 ∷ [])) ++ (Wait Fields.LSIRDY 1 ∷ [])) ++ (clockTail (flashOf (c .scale) (rb .hclk .rcc-hclk)) q m ++ hseEntries (q .hse) (q .bypass))) ++ pllTail q (c .three) l ++ busEntries (plan .buses) (plan .selectors) ≡ planEntries plan
+  unfolding listWith clockEntries planWith
+  list-is = rw (same .hclk) (simp append-assoc (grouped (setupEntries 0 (pllFrom l 0)) (setupEntries 1 (pllFrom l 1)) (setupEntries 2 (pllFrom l 2)) _))
 
 -- ---- from the PLLs on
 abbrev pub Final : Plan → List Entry → CoreClocks → Type 0
 Final p es k = (es ≡ planEntries p) × (k ≡ reported p)
 
-abbrev afterPlls : Request → ChipState → R.Plls → Result Plan
+abbrev afterPlls : Request → ChipState → List PllPlan → Result Plan
 afterPlls q c l = Rules._>>_ (hsiReady c) (Rules._>>=_ (busesOf q (systemFrom q l)) (λ b. Rules._>>=_ (mcosOf q l (systemFrom q l)) (λ m. ok (planWith q c l b m))))
 
 -- refusals 16 and 17
@@ -123,9 +130,9 @@ asserted true Hsidiv.Div4 x y es h = tt
 asserted true Hsidiv.Div8 x y es h = tt
 asserted false d x y es h = tt
 
-module _ (q : Request) (c : ChipState) (l : R.Plls) (asked1 : PllRequest) (needed : needsPll1 q ≡ true → isSet (pClock (l .pll1)) ≡ true) (third : c .three ≡ false → l .pll3 ≡ Idle) (st : Stated q) where
+module _ (q : Request) (c : ChipState) (l : List PllPlan) (asked1 : PllRequest) (needed : needsPll1 q ≡ true → isSet (pClock (pllFrom l 0)) ≡ true) (third : c .three ≡ false → pllFrom l 2 ≡ Idle) (st : Stated q) where
   abbrev es0 : List Entry
-  es0 = setupEntries 0 (l .pll1) ++ (setupEntries 1 (l .pll2) ++ setupEntries 2 (l .pll3))
+  es0 = setupEntries 0 (pllFrom l 0) ++ (setupEntries 1 (pllFrom l 1) ++ setupEntries 2 (pllFrom l 2))
 
   abbrev es2 : List Entry
   es2 = (es0 ++ (Set Fields.LSION 1 ∷ [])) ++ (Wait Fields.LSIRDY 1 ∷ [])
@@ -137,7 +144,7 @@ module _ (q : Request) (c : ChipState) (l : R.Plls) (asked1 : PllRequest) (neede
   sys = systemFrom q l
 
   -- all that follows the MCOs is written and returned
-  ending : (b : R.Buses) (m : R.Mcos) (rb : F.Buses) → SameBuses es2 b es2 rb → Agree Final (ok (planWith q c l b m)) (continue (start-clocks (c .scale) (configAfter q asked1) rb (mcosRust m) es2) (λ u es. continue (start-plls c (configAfter q asked1) (clocksOf l) es) (λ u es. continue (switch-clocks (configAfter q asked1) (needsPll1 q) rb (match-per-ck (q .peripheral) (q .hse) .ckpersel) DefaultX2 es) (λ u es. ends es (clocks-of sys (configAfter q asked1) (clocksOf l) rb (mcosRust m) DefaultX2)))))
+  ending : (b : Buses) (m : Mcos) (rb : F.Buses) → SameBuses es2 b es2 rb → Agree Final (ok (planWith q c l b m)) (continue (start-clocks (c .scale) (configAfter q asked1) rb (mcosRust m) es2) (λ u es. continue (start-plls c (configAfter q asked1) (clocksOf l) es) (λ u es. continue (switch-clocks (configAfter q asked1) (needsPll1 q) rb (match-per-ck (q .peripheral) (q .hse) .ckpersel) DefaultX2 es) (λ u es. ends es (clocks-of sys (configAfter q asked1) (clocksOf l) rb (mcosRust m) DefaultX2)))))
   ending b m rb s =
       let h : rb .hclk .rcc-hclk ≡ b .ahb .clock = ap (λ (x : F.Hclk). x .rcc-hclk) (s .hclk) in
       let p : 1 ≤ rb .hclk .rcc-hclk = rw h (s .some) in
@@ -160,7 +167,7 @@ unfolding chosenPlan
 all-agree q c =
     rw (frozen-parts q c)
     (depart-then (SameReady q c) Final (pllsOf q c) (ready q c) _ _ (Departure q c) (plls-ready q c) (λ n es r d. rest-keeps (Departure q c n) (departs-still q c n) c r es d)
-    (λ l es r h. rw (h .entries, h .value) (rest-agrees q c l (h .asked1) (h .needed) (h .third) (h .states))))
+    (λ l es r h. rw (h .entries, h .value) (rest-agrees q c l (askedOf q 0) (h .needed) (h .third) (h .states))))
 
 -- freeze ends as the plan says, and 14 and 15 have their cause
 module _ (q : Request) (c : ChipState) where

@@ -18,7 +18,7 @@ use Rattle.types.specs.declared.Scale.{Scale}
 use Rattle.types.specs.declared.ChipState.{ChipState}
 use Rattle.rules.specs.Document01.Fields
 use Rattle.rules.specs.Document01.Fields.{ofPll}
-use Rattle.rules.specs.Document01.OnePll.{clockOf, pClock}
+use Rattle.rules.specs.Document01.OnePll.{clockOf, pClock, pllFrom}
 use Rattle.rules.specs.Document01.Mco.{mco1Code, mco2Code}
 use Rattle.types.specs.declared.Waits.{Waits}
 use Rattle.rules.specs.Document01.Flash.{flashOf}
@@ -32,6 +32,8 @@ use Rattle.laws.proofs.Tests.{by-test}
 use Rattle.rules.proofs.Agreement.Config.{configAfter}
 use Rattle.rules.proofs.Agreement.Mcos.{mcosRust, clocksOf}
 use Rattle.rules.proofs.Agreement.Flash.{flash-same}
+use Rattle.types.specs.declared.Mcos.{Mcos}
+use Rattle.types.specs.declared.PllPlan.{PllPlan}
 
 -- ---- HSE
 bit-is : (b : Bool) → cond b 1 0 ≡ bit b
@@ -43,14 +45,14 @@ hse-ends Unset bypass es = rw (append-nil es)
 hse-ends (Hz h) bypass es = rw (bit-is bypass, append-assoc es (Set2 Fields.HSEON 1 Fields.HSEBYP (bit bypass) ∷ []) (Wait Fields.HSERDY 1 ∷ []))
 
 -- ---- flash, CSI, HSI48, MCOs and HSE
-abbrev pub clockTail : Waits → Request → R.Mcos → List Entry
+abbrev pub clockTail : Waits → Request → Mcos → List Entry
 clockTail w q m =
     Set3 Fields.WRHIGHFREQ (w .delay) Fields.LATENCY (w .latency) Fields.PRFTEN (prftenOf (w .latency)) ∷ Wait Fields.LATENCY (w .latency)
     ∷ Set Fields.CSION 1 ∷ Wait Fields.CSIRDY 1
     ∷ Set Fields.HSI48ON 1 ∷ Wait Fields.HSI48RDY 1
     ∷ Set4 Fields.MCO1SEL (mco1Code (q .mco1source)) Fields.MCO1PRE (m .mco1 .pre) Fields.MCO2SEL (mco2Code (q .mco2source)) Fields.MCO2PRE (m .mco2 .pre) ∷ []
 
-pub clocks-end : (s : Scale) (q : Request) (asked1 : PllRequest) (b : F.Buses) (m : R.Mcos) (es : List Entry) → 1 ≤ b .hclk .rcc-hclk → start-clocks s (configAfter q asked1) b (mcosRust m) es ≡ ends (es ++ (clockTail (flashOf s (b .hclk .rcc-hclk)) q m ++ hseEntries (q .hse) (q .bypass))) tt
+pub clocks-end : (s : Scale) (q : Request) (asked1 : PllRequest) (b : F.Buses) (m : Mcos) (es : List Entry) → 1 ≤ b .hclk .rcc-hclk → start-clocks s (configAfter q asked1) b (mcosRust m) es ≡ ends (es ++ (clockTail (flashOf s (b .hclk .rcc-hclk)) q m ++ hseEntries (q .hse) (q .bypass))) tt
 unfolding start-clocks flash-setup flash-acr
 clocks-end s q asked1 b m es h =
     rw (le-leb 1 (b .hclk .rcc-hclk) h, flash-same s (b .hclk .rcc-hclk), hse-ends (q .hse) (q .bypass))
@@ -69,23 +71,23 @@ pll-starts : (k : ℕ) (x : Pll) (es : List Entry) → enable-pll k (pClock x) e
 pll-starts k Idle es = rw (append-nil es)
 pll-starts k (Runs s) es = output-starts k (s .p) es
 
-abbrev pub pllTail : Request → Bool → R.Plls → List Entry
+abbrev pub pllTail : Request → Bool → List PllPlan → List Entry
 pllTail q three l =
     sourceEntries three (srcOf (q .hse))
-    ++ (startEntries 0 (l .pll1) ++ (startEntries 1 (l .pll2) ++ startEntries 2 (l .pll3)))
+    ++ (startEntries 0 (pllFrom l 0) ++ (startEntries 1 (pllFrom l 1) ++ startEntries 2 (pllFrom l 2)))
 
-three-end : (q : Request) (asked1 : PllRequest) (c : ChipState) (l : R.Plls) (es : List Entry) → c .three ≡ true → start-plls c (configAfter q asked1) (clocksOf l) es ≡ ends (es ++ pllTail q true l) tt
+three-end : (q : Request) (asked1 : PllRequest) (c : ChipState) (l : List PllPlan) (es : List Entry) → c .three ≡ true → start-plls c (configAfter q asked1) (clocksOf l) es ≡ ends (es ++ pllTail q true l) tt
 unfolding start-plls
 three-end q asked1 c l es t =
-    rw (t, src-is (q .hse), pll-starts 0 (l .pll1), pll-starts 1 (l .pll2), pll-starts 2 (l .pll3))
+    rw (t, src-is (q .hse), pll-starts 0 (pllFrom l 0), pll-starts 1 (pllFrom l 1), pll-starts 2 (pllFrom l 2))
     (ap (λ (x : List Entry). ends x tt) (simp append-assoc))
 
-two-end : (q : Request) (asked1 : PllRequest) (c : ChipState) (l : R.Plls) (es : List Entry) → c .three ≡ false → l .pll3 ≡ Idle → start-plls c (configAfter q asked1) (clocksOf l) es ≡ ends (es ++ pllTail q false l) tt
+two-end : (q : Request) (asked1 : PllRequest) (c : ChipState) (l : List PllPlan) (es : List Entry) → c .three ≡ false → pllFrom l 2 ≡ Idle → start-plls c (configAfter q asked1) (clocksOf l) es ≡ ends (es ++ pllTail q false l) tt
 unfolding start-plls
 two-end q asked1 c l es f i =
-    rw (f, i, src-is (q .hse), pll-starts 0 (l .pll1), pll-starts 1 (l .pll2))
+    rw (f, i, src-is (q .hse), pll-starts 0 (pllFrom l 0), pll-starts 1 (pllFrom l 1))
     (ap (λ (x : List Entry). ends x tt) (simp (append-assoc, append-nil)))
 
-pub plls-end : (q : Request) (asked1 : PllRequest) (c : ChipState) (l : R.Plls) (es : List Entry) → (c .three ≡ false → l .pll3 ≡ Idle) → start-plls c (configAfter q asked1) (clocksOf l) es ≡ ends (es ++ pllTail q (c .three) l) tt
+pub plls-end : (q : Request) (asked1 : PllRequest) (c : ChipState) (l : List PllPlan) (es : List Entry) → (c .three ≡ false → pllFrom l 2 ≡ Idle) → start-plls c (configAfter q asked1) (clocksOf l) es ≡ ends (es ++ pllTail q (c .three) l) tt
 plls-end q asked1 c l es h =
     by-test (c .three) (λ (t : c .three ≡ true). three-end q asked1 c l es t ∙ rw t) (λ (f : c .three ≡ false). two-end q asked1 c l es f (h f) ∙ rw f)

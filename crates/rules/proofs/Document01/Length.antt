@@ -19,7 +19,7 @@ use Rattle.types.specs.declared.Answer.the-variants.{Accepted, Refused}
 use Rattle.types.specs.declared.Planned.{Planned}
 use Rattle.rules.specs.Document01.Fields
 use Rattle.rules.specs.Document01.Fields.{ofPll}
-use Rattle.rules.specs.Document01.Entries.{outputEntries, fractionEntries, settingEntries, setupEntries, pllIn, clockEntries, hseEntries, sourceEntries, outputStart, startEntries, busEntries, planEntries, entriesOf}
+use Rattle.rules.specs.Document01.Entries.{outputEntries, fractionEntries, settingEntries, setupEntries, pllIn, clockEntries, hseEntries, sourceEntries, outputStart, startEntries, busEntries, planEntries, entriesOf, listWith}
 
 output-length : (d e : ℕ) (o : PllOutput) → length (outputEntries d e o) ≤ 2
 output-length d e Off = omega arith
@@ -56,24 +56,24 @@ start-length : (k : ℕ) (x : Pll) → length (startEntries k x) ≤ 2
 start-length k Idle = omega arith
 start-length k (Runs s) = output-start-length k (s .p)
 
-clock-length : (p : Plan) → length (clockEntries p) ≡ 9
+clock-length : (p : Plan) → length (clockEntries (p .waits) (p .selectors) (p .mcos)) ≡ 9
 unfolding clockEntries
 clock-length p = refl
 
-bus-length : (p : Plan) → length (busEntries p) ≡ 10
+bus-length : (p : Plan) → length (busEntries (p .buses) (p .selectors)) ≡ 10
 unfolding busEntries
 bus-length p = refl
 
 -- a plan's list
 pub plan-length : (p : Plan) → (21 ≤ length (planEntries p)) × (length (planEntries p) ≤ 69)
-unfolding planEntries
+unfolding listWith
 plan-length p =
     let setup0 = setup-length 0 (pllIn p 0) in
     let setup1 = setup-length 1 (pllIn p 1) in
     let setup2 = setup-length 2 (pllIn p 2) in
     let clocks = clock-length p in
-    let hse = hse-length (p .hse) (p .bypass) in
-    let sources = source-length (p .three) (p .src) in
+    let hse = hse-length (p .clocks .hse) (p .bypass) in
+    let sources = source-length (p .three) (p .selectors .src) in
     let start0 = start-length 0 (pllIn p 0) in
     let start1 = start-length 1 (pllIn p 1) in
     let start2 = start-length 2 (pllIn p 2) in

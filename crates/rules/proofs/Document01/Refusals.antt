@@ -1,7 +1,8 @@
 -- Which refusals there are: each has its own number, and which numbers a typed request can get.
 use mathlib.Core.Path.{_≡_, refl, sym, ap, _∙_, subst}
-use mathlib.Core.Bool.{Bool, true, false, not, cond, _&&_, _||_}
+use mathlib.Core.Bool.{Bool, true, false, not, _&&_, _||_}
 use mathlib.Core.List.{List, [], _∷_}
+use mathlib.Core.Option.{some}
 use Prim.Native.Nat.{ℕ, _/_, _%_}
 use native.Mathlib.Omega.{arith}
 use lib.Dec.{leb, ltb, eqb}
@@ -21,77 +22,48 @@ use Rattle.types.specs.declared.Fracn.the-variants.{Value, OutOfRange}
 use Rattle.types.specs.declared.FoundM.{FoundM}
 use Rattle.types.specs.declared.FoundM.the-variants.{Nothing, M}
 use Rattle.types.specs.declared.Refusal.{Refusal}
-use Rattle.types.specs.declared.Refusal.the-variants.{OutsideCodes, BankLength, AboveLimit, McoHseUnstated, Pll1PUnlikeSystem, SourceZero, OutputZero, OutputsTooFarApart, OutputTooHigh, TargetOutside, NoM, NOutside, FracnOutside, PDividerAbove128, PDividerOdd, HsiOff, HsidivNot2, BusZero, AhbZero, Mco1Lse, McoNoOutput, McoZero, McoRatio, CsiDown}
+use Rattle.types.specs.declared.Refusal.the-variants.{AboveLimit, McoHseUnstated, Pll1PUnlikeSystem, SourceZero, OutputZero, OutputsTooFarApart, OutputTooHigh, PDividerAbove128, PDividerOdd, HsiOff, HsidivNot2, BusZero, AhbZero, McoZero, McoRatio}
 use Rattle.types.specs.declared.Plan.{Plan}
 use Rattle.types.specs.declared.Answer.the-variants.{Refused}
 use Rattle.ieee754.specs.Steps.{float, fracnOf}
-use Rattle.rules.specs.Demands.Calls.{typedNumbers}
 use Rattle.rules.specs.Manual.Tree.{among}
-use Rattle.rules.specs.Document01.Chip.{divisorOf}
+use Rattle.rules.specs.Document01.Chip.{divisorOf, oddAt, hasPll}
 use Rattle.rules.specs.Document01.Result.{Result, refused, ok, _>>=_, _>>_, require}
-use Rattle.rules.specs.Document01.Refusals.{numberOf}
+use Rattle.rules.specs.Document01.Refusals.{numberOf, refusalOf, typedNumbers}
 use Rattle.rules.specs.Document01.Hertz.{isSet, notZero, ratioOf}
-use Rattle.rules.specs.Document01.Request.{pllAt, within, limited, fromHse1, fromHse2, stated, pll1Asked, pll2Asked, sourceOf, systemOf, needsPll1, like, forSystemClock, sourced}
+use Rattle.rules.specs.Document01.Request.{pllAt, within, limited, fromHse1, fromHse2, stated, pll1Asked, pll2Asked, sourceOf, systemOf, needsPll1, like, sourced, systemFits, configured, askedOf}
 use Rattle.rules.specs.Document01.ChoiceOfM.{chosenM}
-use Rattle.rules.specs.Document01.OnePll.{wanted, noneZero, countedOutputs, least, largest, Range, admissible, firstOf, taken, fractionOf, dividerP, allowedP, spanned, rangeFor, targetFor, dividedBy, settingsOf, settled, runs, running, pllOf, pClock, qClock}
+use Rattle.rules.specs.Document01.OnePll.{wanted, noneZero, countedOutputs, least, largest, Range, admissible, firstOf, taken, fractionOf, dividerP, allowedP, spanned, rangeFor, targetFor, dividedBy, settingsOf, settled, runs, running, pllOf, pClock, qClock, pllFrom}
 use Rattle.rules.specs.Document01.Buses.{hpreFor, ppreFor, ahbOf, apbOf}
-use Rattle.rules.specs.Document01.Mco.{Mco, planned, mco1Input, mco2Input, mcoOf}
-use Rattle.rules.specs.Document01.Plan.{Plls, thirdOf, pllsOf, hsiReady, systemFrom, busesOf, mcosOf, chosenPlan, answered, answerTo}
+use Rattle.rules.specs.Document01.Mco.{planned, mco1Input, mco2Input, mcoOf}
+use Rattle.rules.specs.Document01.Plan.{pllsOf, hsiReady, systemFrom, busesOf, mcosOf, chosenPlan, answered, answerTo, plannedAt}
 use Rattle.laws.proofs.Tests.{by-test, never, and-left, and-right}
+use Rattle.rules.proofs.Document01.Listed.{each-found}
 use Rattle.rules.proofs.Document01.Results.{Only, only-weaker, only-require, only-then, only-next, only-tested}
 use Rattle.rules.proofs.Document01.Multiplier.{range-kind, n-tested, n-known}
+use Rattle.types.specs.declared.Mco.{Mco}
+use Rattle.types.specs.declared.PllPlan.{PllPlan}
 
 -- ---- no two refusals have the same number
--- all of them
-abbrev inOrder : List Refusal
-inOrder =
-    OutsideCodes ∷ BankLength ∷ AboveLimit ∷ McoHseUnstated ∷ Pll1PUnlikeSystem ∷ SourceZero ∷ OutputZero ∷ OutputsTooFarApart ∷ OutputTooHigh ∷ TargetOutside ∷ NoM ∷ NOutside
-    ∷ FracnOutside ∷ PDividerAbove128 ∷ PDividerOdd ∷ HsiOff ∷ HsidivNot2 ∷ BusZero ∷ AhbZero ∷ Mco1Lse ∷ McoNoOutput ∷ McoZero ∷ McoRatio ∷ CsiDown ∷ []
-
--- the one with that number
-abbrev numbered : List Refusal → ℕ → Refusal
-numbered [] n = CsiDown
-numbered (m ∷ ms) n = cond (eqb n (numberOf m)) m (numbered ms n)
-
-abbrev refusalOf : ℕ → Refusal
-refusalOf = numbered inOrder
-
-back : (n : Refusal) → refusalOf (numberOf n) ≡ n
-back OutsideCodes = refl
-back BankLength = refl
-back AboveLimit = refl
-back McoHseUnstated = refl
-back Pll1PUnlikeSystem = refl
-back SourceZero = refl
-back OutputZero = refl
-back OutputsTooFarApart = refl
-back OutputTooHigh = refl
-back TargetOutside = refl
-back NoM = refl
-back NOutside = refl
-back FracnOutside = refl
-back PDividerAbove128 = refl
-back PDividerOdd = refl
-back HsiOff = refl
-back HsidivNot2 = refl
-back BusZero = refl
-back AhbZero = refl
-back Mco1Lse = refl
-back McoNoOutput = refl
-back McoZero = refl
-back McoRatio = refl
-back CsiDown = refl
-
 pub numbers-differ : (m n : Refusal) → numberOf m ≡ numberOf n → m ≡ n
-numbers-differ m n e = sym (back m) ∙ ap refusalOf e ∙ back n
+numbers-differ m n e = let s : some m ≡ some n = sym (each-found m) ∙ ap refusalOf e ∙ each-found n in cc
 
 -- ---- a typed request is refused with one of its numbers
 abbrev pub Typed : Refusal → Type 0
 Typed n = among typedNumbers (numberOf n) ≡ true
 
+-- without the two about a divider of P
+abbrev leftOut : Bool → ℕ → List ℕ → List ℕ
+leftOut true x xs = xs
+leftOut false x xs = x ∷ xs
+
+abbrev withoutP : List ℕ → List ℕ
+withoutP [] = []
+withoutP (x ∷ xs) = leftOut (among (14 ∷ 15 ∷ []) x) x (withoutP xs)
+
 -- one of them that is not about a divider of P
 abbrev pub others : List ℕ
-others = 3 ∷ 4 ∷ 5 ∷ 6 ∷ 7 ∷ 8 ∷ 9 ∷ 10 ∷ 11 ∷ 13 ∷ 16 ∷ 17 ∷ 18 ∷ 19 ∷ 20 ∷ 21 ∷ 22 ∷ 23 ∷ []
+others = withoutP typedNumbers
 
 abbrev pub Other : Refusal → Type 0
 Other n = among others (numberOf n) ≡ true
@@ -170,24 +142,24 @@ pll-only : (odd : Bool) (source : ℕ) (a : PllRequest) → Only Typed (pllOf od
 unfolding pllOf
 pll-only odd source a = by-test (wanted a) (λ w. rw w (running-only (runs odd source a) (runs-only odd source a))) (λ w. rw w tt)
 
-third-only : (q : Request) (c : ChipState) → Only Typed (thirdOf q c)
-third-only q c = by-test (c .three) (λ t. rw t (pll-only (c .odd3) (sourceOf q) (pllAt q 2))) (λ f. rw f tt)
+planned-at-only : (q : Request) (c : ChipState) (k : ℕ) → Only Typed (plannedAt q c k)
+planned-at-only q c k = by-test (hasPll c k) (λ t. rw t (pll-only (oddAt c k) (sourceOf q) (askedOf q k))) (λ f. rw f tt)
 
-system-only : (t : Bool) (s : ℕ) (a : PllRequest) → Only Typed (forSystemClock t s a)
-unfolding forSystemClock
-system-only false s a = tt
-system-only true s a = only-tested Typed (like (a .p) s) Pll1PUnlikeSystem _ refl tt
+configured-only : (q : Request) → Only Typed (configured q)
+unfolding configured
+configured-only q =
+    only-next Typed (limited q) _ (only-require Typed (within (q .system) && (within (q .ahb) && (within (q .apb1) && (within (q .apb2) && within (q .apb3))))) AboveLimit refl)
+    (only-next Typed (stated q) _ (only-require Typed (isSet (q .hse) || not (fromHse1 (q .mco1source) || fromHse2 (q .mco2source))) McoHseUnstated refl)
+    (only-next Typed (systemFits q) _ (only-require Typed (not (needsPll1 q) || like (pll1Asked q .p) (systemOf q)) Pll1PUnlikeSystem refl)
+    (only-require Typed (not (eqb (sourceOf q) 0)) SourceZero refl)))
 
 plls-only : (q : Request) (c : ChipState) → Only Typed (pllsOf q c)
 unfolding pllsOf
 plls-only q c =
-    only-next Typed (limited q) _ (only-require Typed (within (q .system) && (within (q .ahb) && (within (q .apb1) && (within (q .apb2) && within (q .apb3))))) AboveLimit refl)
-    (only-next Typed (stated q) _ (only-require Typed (isSet (q .hse) || not (fromHse1 (q .mco1source) || fromHse2 (q .mco2source))) McoHseUnstated refl)
-    (only-then Typed (forSystemClock (needsPll1 q) (systemOf q) (pll1Asked q)) _ (system-only (needsPll1 q) (systemOf q) (pll1Asked q))
-    (λ a. only-next Typed (sourced q) _ (only-require Typed (not (eqb (sourceOf q) 0)) SourceZero refl)
-    (only-then Typed (pllOf (c .odd1) (sourceOf q) a) _ (pll-only (c .odd1) (sourceOf q) a)
-    (λ x. only-then Typed (pllOf (c .odd2) (sourceOf q) (pll2Asked q)) _ (pll-only (c .odd2) (sourceOf q) (pll2Asked q))
-    (λ y. only-then Typed (thirdOf q c) _ (third-only q c) (λ z. tt)))))))
+    only-next Typed (configured q) _ (configured-only q)
+    (only-then Typed (plannedAt q c 0) _ (planned-at-only q c 0)
+    (λ x. only-then Typed (plannedAt q c 1) _ (planned-at-only q c 1)
+    (λ y. only-then Typed (plannedAt q c 2) _ (planned-at-only q c 2) (λ z. tt))))
 
 ahb-only : (system : ℕ) (h : Hertz) → Only Other (ahbOf system h)
 unfolding ahbOf
@@ -238,12 +210,12 @@ mco-only clock (Hz h) =
     let made : Result Mco = ok (record { pre = ratio; clock = Hz (clock / ratio) }) in
     only-tested Other (not (eqb h 0)) McoZero (require fits McoRatio >> made) refl (only-tested Other fits McoRatio made refl tt)
 
-pub mcos-only : (q : Request) (l : Plls) (system : ℕ) → Only Other (mcosOf q l system)
+pub mcos-only : (q : Request) (l : List PllPlan) (system : ℕ) → Only Other (mcosOf q l system)
 unfolding mcosOf
 mcos-only q l system =
-    only-then Other (mco1Input (q .mco1source) (q .hse) (qClock (l .pll1))) _ (mco1-only (q .mco1source) (q .hse) (qClock (l .pll1)))
+    only-then Other (mco1Input (q .mco1source) (q .hse) (qClock (pllFrom l 0))) _ (mco1-only (q .mco1source) (q .hse) (qClock (pllFrom l 0)))
     (λ i. only-then Other (mcoOf i (q .mco1)) _ (mco-only i (q .mco1))
-    (λ x. only-then Other (mco2Input (q .mco2source) system (q .hse) (pClock (l .pll1)) (pClock (l .pll2))) _ (mco2-only (q .mco2source) system (q .hse) (pClock (l .pll1)) (pClock (l .pll2)))
+    (λ x. only-then Other (mco2Input (q .mco2source) system (q .hse) (pClock (pllFrom l 0)) (pClock (pllFrom l 1))) _ (mco2-only (q .mco2source) system (q .hse) (pClock (pllFrom l 0)) (pClock (pllFrom l 1)))
     (λ j. only-then Other (mcoOf j (q .mco2)) _ (mco-only j (q .mco2)) (λ y. tt))))
 
 pub ready-only : (c : ChipState) → Only Other (hsiReady c)

@@ -1,4 +1,4 @@
--- Which refusals the calls on bytes answer: the planner's 1 and 3 to 23, the bank call 2 as well; neither 12, and 24 is the walk's alone.
+-- Which refusals the calls on bytes answer: the planner's `planNumbers`, the bank call `bankNumbers`.
 use mathlib.Core.Path.{_≡_, refl, subst}
 use mathlib.Core.Bool.{Bool, true, false, _&&_, _||_}
 use mathlib.Core.List.{List, [], _∷_}
@@ -11,12 +11,11 @@ use Rattle.types.specs.declared.Refusal.{Refusal}
 use Rattle.types.specs.declared.Refusal.the-variants.{OutsideCodes, BankLength}
 use Rattle.types.specs.declared.Plan.{Plan}
 use Rattle.types.specs.declared.Answer.the-variants.{Refused}
-use Rattle.rules.specs.Document01.Refusals.{numberOf}
+use Rattle.rules.specs.Document01.Refusals.{numberOf, typedNumbers, planNumbers, bankNumbers}
 use Rattle.rules.specs.Document01.Result.{Result, refused, ok, _>>=_, _>>_, require}
-use Rattle.rules.specs.Document01.Chip.{isBit, isHsidiv, chipOf}
+use Rattle.rules.specs.Document01.Chip.{isBit, isHsidiv, chipOf, permission}
 use Rattle.rules.specs.Document01.Bytes.{Read, Reader, fits, byte, end, code, word, setTo, hertz, flag, mco1Source, mco2Source, strategy, pllPart, thirdPart, requestPart}
 use Rattle.rules.specs.Document01.Plan.{chosenPlan, answered, requestOf, planOf, bankPlanOf}
-use Rattle.rules.specs.Demands.Calls.{typedNumbers, planNumbers, bankNumbers}
 use Rattle.rules.specs.Manual.Tree.{among}
 use Rattle.rules.proofs.Document01.Results.{Only, only-require, only-then, only-next}
 use Rattle.rules.proofs.Document01.Refusals.{Typed, among-more, chosen-plan-only}
@@ -27,7 +26,7 @@ module _ (P : Refusal → Type 0) (one : P OutsideCodes) where
   unfolding chipOf
   chip-only chip =
       only-next P (require (eqb (chip .plls) 2 || eqb (chip .plls) 3) OutsideCodes) _ (only-require P (eqb (chip .plls) 2 || eqb (chip .plls) 3) OutsideCodes one)
-      (only-next P (require (isBit (chip .odd1) && (isBit (chip .odd2) && isBit (chip .odd3))) OutsideCodes) _ (only-require P (isBit (chip .odd1) && (isBit (chip .odd2) && isBit (chip .odd3))) OutsideCodes one)
+      (only-next P (require (isBit (permission chip 0) && (isBit (permission chip 1) && isBit (permission chip 2))) OutsideCodes) _ (only-require P (isBit (permission chip 0) && (isBit (permission chip 1) && isBit (permission chip 2))) OutsideCodes one)
       (only-next P (require (ltb (chip .scale) 4) OutsideCodes) _ (only-require P (ltb (chip .scale) 4) OutsideCodes one)
       (only-next P (require (isBit (chip .hsion)) OutsideCodes) _ (only-require P (isBit (chip .hsion)) OutsideCodes one)
       (only-next P (require (isHsidiv (chip .hsidiv)) OutsideCodes) _ (only-require P (isHsidiv (chip .hsidiv)) OutsideCodes one) tt))))

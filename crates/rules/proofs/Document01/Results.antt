@@ -12,6 +12,13 @@ ok-same e = cc
 pub not-ok : {A Q : Type 0} {n : Refusal} {a : A} → refused n ≡ ok a → Q
 not-ok e = absurd (let z : _≡_ {A = ℕ} 0 1 = cc in omega arith)
 
+-- four tests in a group, and what follows them
+pub regroup : {A : Type 0} (a b c d : Result (Unit {0})) (r : Result A) → (a >> (b >> (c >> d))) >> r ≡ a >> (b >> (c >> (d >> r)))
+regroup (refused n) b c d r = refl
+regroup (ok u) (refused n) c d r = refl
+regroup (ok u) (ok v) (refused n) d r = refl
+regroup (ok u) (ok v) (ok w) d r = refl
+
 -- ---- a value
 -- what holds of a value, if there is one
 abbrev pub Holds : {A : Type 0} → (A → Type 0) → Result A → Type 0

@@ -8,7 +8,7 @@ use borrow.Author.Tests.{ltb-true, ltb-false}
 use lib.Dec.{ltb, leb}
 use lib.ListN.{length, getD, length-set}
 use Rattle.rules.specs.Document01.Walk.{Stand, shownOf}
-use Rattle.rules.specs.Document01.Words.{shownWords, nineAt, storedAt, standAfter, ran, shownCount}
+use Rattle.rules.specs.Words.{shownWords, nineAt, storedAt, standAfter, ran, shownCount}
 
 -- no more are stored than the reads have steps for, nor than the room holds
 count-bounds : (reads room : ℕ) → (shownCount reads room ≤ reads / 2 + 1) × (9 * shownCount reads room ≤ room)

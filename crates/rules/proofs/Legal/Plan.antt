@@ -11,46 +11,38 @@ use Rattle.types.specs.declared.Plan.{Plan}
 use Rattle.types.specs.declared.Refusal.the-variants.{Pll1PUnlikeSystem}
 use Rattle.types.specs.declared.Answer.the-variants.{Accepted}
 use Rattle.rules.specs.Document01.Result.{Result, refused, ok}
-use Rattle.rules.specs.Document01.Request.{pllAt, limited, stated, pll1Asked, pll2Asked, sourceOf, systemOf, needsPll1, like, withP, askedOf, forSystemClock, sourced}
-use Rattle.rules.specs.Document01.OnePll.{pllOf}
-use Rattle.rules.specs.Document01.Plan.{Plls, thirdOf, pllsOf, hsiReady, systemFrom, busesOf, mcosOf, planWith, chosenPlan, answered, answerTo}
+use Rattle.rules.specs.Document01.Request.{pllAt, limited, stated, pll1Asked, pll2Asked, sourceOf, systemOf, needsPll1, like, withP, askedOf, sourced, configured}
+use Rattle.rules.specs.Document01.OnePll.{pllOf, pllFrom}
+use Rattle.rules.specs.Document01.Plan.{pllsOf, hsiReady, systemFrom, busesOf, mcosOf, planWith, chosenPlan, answered, answerTo, plannedAt}
 use Rattle.rules.specs.Demands.Legal.{LegalPll, LegalThird, LegalPlan}
 use Rattle.laws.proofs.Tests.{by-test}
 use Rattle.rules.proofs.Document01.Results.{Holds, holds-then, holds-next, holds-tested, holds-known}
 use Rattle.rules.proofs.Legal.Flash.{flash-asked}
 use Rattle.rules.proofs.Legal.OnePll.{pll-legal}
+use Rattle.rules.specs.Document01.Chip.{oddAt}
+use Rattle.types.specs.declared.PllPlan.{PllPlan}
+use mathlib.Core.List.{List}
 
-pub record LegalPlls (q : Request) (c : ChipState) (l : Plls) : Type 0 where
-  pub pll1 : LegalPll (c .odd1) (sourceOf q) (askedOf q 0) (l .pll1)
-  pub pll2 : LegalPll (c .odd2) (sourceOf q) (askedOf q 1) (l .pll2)
-  pub pll3 : LegalThird (c .three) (c .odd3) (sourceOf q) (askedOf q 2) (l .pll3)
+pub record LegalPlls (q : Request) (c : ChipState) (l : List PllPlan) : Type 0 where
+  pub pll1 : LegalPll (oddAt c 0) (sourceOf q) (askedOf q 0) (pllFrom l 0)
+  pub pll2 : LegalPll (oddAt c 1) (sourceOf q) (askedOf q 1) (pllFrom l 1)
+  pub pll3 : LegalThird (c .three) (oddAt c 2) (sourceOf q) (askedOf q 2) (pllFrom l 2)
 
--- what PLL1 is asked for, once refusal 5 does not fit
-pub asked-first : (q : Request) → Holds (λ a. a ≡ askedOf q 0) (forSystemClock (needsPll1 q) (systemOf q) (pll1Asked q))
-unfolding forSystemClock
-asked-first q =
-    by-test (needsPll1 q)
-    (λ t. rw t (holds-tested (λ a. a ≡ withP (pll1Asked q) (systemOf q)) (like (pll1Asked q .p) (systemOf q)) Pll1PUnlikeSystem _ (λ s. refl)))
-    (λ f. rw f refl)
-
-third-legal : (q : Request) (c : ChipState) → Holds (LegalThird (c .three) (c .odd3) (sourceOf q) (askedOf q 2)) (thirdOf q c)
+third-legal : (q : Request) (c : ChipState) → Holds (LegalThird (c .three) (oddAt c 2) (sourceOf q) (askedOf q 2)) (plannedAt q c 2)
 third-legal q c = go (c .three)
   where
-    go : (t : Bool) → Holds (LegalThird t (c .odd3) (sourceOf q) (askedOf q 2)) (cond t (pllOf (c .odd3) (sourceOf q) (pllAt q 2)) (ok Idle))
-    go true = pll-legal (c .odd3) (sourceOf q) (pllAt q 2)
+    go : (t : Bool) → Holds (LegalThird t (oddAt c 2) (sourceOf q) (askedOf q 2)) (cond t (pllOf (oddAt c 2) (sourceOf q) (askedOf q 2)) (ok Idle))
+    go true = pll-legal (oddAt c 2) (sourceOf q) (askedOf q 2)
     go false = refl
 
 pub plls-legal : (q : Request) (c : ChipState) → Holds (LegalPlls q c) (pllsOf q c)
 unfolding pllsOf
 plls-legal q c =
-    holds-next (LegalPlls q c) (limited q) _
-    (holds-next (LegalPlls q c) (stated q) _
-    (holds-known (LegalPlls q c) (λ a. a ≡ askedOf q 0) (forSystemClock (needsPll1 q) (systemOf q) (pll1Asked q)) _ (asked-first q)
-    (λ asked1 is. holds-next (LegalPlls q c) (sourced q) _
-    (holds-known (LegalPlls q c) (LegalPll (c .odd1) (sourceOf q) asked1) (pllOf (c .odd1) (sourceOf q) asked1) _ (pll-legal (c .odd1) (sourceOf q) asked1)
-    (λ x1 l1. holds-known (LegalPlls q c) (LegalPll (c .odd2) (sourceOf q) (pll2Asked q)) (pllOf (c .odd2) (sourceOf q) (pll2Asked q)) _ (pll-legal (c .odd2) (sourceOf q) (pll2Asked q))
-    (λ x2 l2. holds-known (LegalPlls q c) (LegalThird (c .three) (c .odd3) (sourceOf q) (askedOf q 2)) (thirdOf q c) _ (third-legal q c)
-    (λ x3 l3. record { pll1 = subst (λ (a : PllRequest). LegalPll (c .odd1) (sourceOf q) a x1) is l1; pll2 = l2; pll3 = l3 })))))))
+    holds-next (LegalPlls q c) (configured q) _
+    (holds-known (LegalPlls q c) (LegalPll (oddAt c 0) (sourceOf q) (askedOf q 0)) (plannedAt q c 0) _ (pll-legal (oddAt c 0) (sourceOf q) (askedOf q 0))
+    (λ x1 l1. holds-known (LegalPlls q c) (LegalPll (oddAt c 1) (sourceOf q) (askedOf q 1)) (plannedAt q c 1) _ (pll-legal (oddAt c 1) (sourceOf q) (askedOf q 1))
+    (λ x2 l2. holds-known (LegalPlls q c) (LegalThird (c .three) (oddAt c 2) (sourceOf q) (askedOf q 2)) (plannedAt q c 2) _ (third-legal q c)
+    (λ x3 l3. record { pll1 = l1; pll2 = l2; pll3 = l3 }))))
 
 pub chosen-legal : (q : Request) (c : ChipState) → Holds (LegalPlan q c) (chosenPlan q c)
 unfolding chosenPlan planWith

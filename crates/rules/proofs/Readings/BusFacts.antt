@@ -10,24 +10,20 @@ use Rattle.types.specs.declared.Hertz.the-variants.{Unset, Hz}
 use Rattle.types.specs.declared.Refusal.the-variants.{BusZero, AhbZero, McoZero, McoRatio}
 use Rattle.rules.specs.Document01.Result.{Result, refused, ok, _>>=_, _>>_, require}
 use Rattle.rules.specs.Document01.Hertz.{ratioOf, hertzOr, notZero}
-use Rattle.rules.specs.Document01.Buses.{Selected, csiOrHsi, peripheralOf, hpreOf, ppreOf, Bus, hpreFor, ahbOf, ppreFor, apbOf}
-use Rattle.rules.specs.Document01.Mco.{Mco, mcoOf}
+use Rattle.rules.specs.Document01.Buses.{apbRows, csiOrHsi, peripheralOf, hpreOf, ppreOf, hpreFor, ahbOf, ppreFor, apbOf}
+use Rattle.rules.specs.Document01.Mco.{mcoOf}
 use Rattle.rules.specs.Manual.Tree.{among}
 use Rattle.rules.proofs.Manual.Chains.{ppres}
+use Rattle.rules.proofs.Document01.Ratios.{tested, hpre-pos}
 use Rattle.rules.proofs.Document01.Results.{tested-ok}
 use Rattle.laws.proofs.Tests.{and-left, either}
+use Rattle.types.specs.declared.Bus.{Bus}
+use Rattle.types.specs.declared.Selected.{Selected}
+use Rattle.types.specs.declared.Mco.{Mco}
 
 -- ---- the divisors that there are
-hpre-pos : (ratio : ℕ) → 1 ≤ hpreOf ratio
-hpre-pos ratio =
-    let F : ℕ → Type 0 = λ n. 1 ≤ n in
-    either F (leb ratio 1) _ _ (omega arith) (either F (leb ratio 2) _ _ (omega arith) (either F (leb ratio 5) _ _ (omega arith) (either F (leb ratio 11) _ _ (omega arith)
-    (either F (leb ratio 39) _ _ (omega arith) (either F (leb ratio 95) _ _ (omega arith) (either F (leb ratio 191) _ _ (omega arith) (either F (leb ratio 383) _ _ (omega arith) (omega arith))))))))
-
 ppre-among : (ratio : ℕ) → among ppres (ppreOf ratio) ≡ true
-ppre-among ratio =
-    let F : ℕ → Type 0 = λ n. among ppres n ≡ true in
-    either F (leb ratio 1) _ _ refl (either F (leb ratio 2) _ _ refl (either F (leb ratio 5) _ _ refl (either F (leb ratio 11) _ _ refl refl)))
+ppre-among ratio = tested (among ppres) apbRows 16 refl ratio
 
 -- ---- a bus of the clock before it
 pub record GoodBus (before : ℕ) (b : Bus) : Type 0 where

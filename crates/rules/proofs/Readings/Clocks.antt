@@ -115,14 +115,14 @@ module _ (q : Request) (p : Plan) (good : Consistent q p) where
   source-by Unset = refl
   source-by (Hz h) = refl
 
-  src-word : (j : ℕ) → j < 3 → (s : PllSettings) → pllIn p j ≡ Runs s → srcWord (p .three) (p .src) j ≡ srcOf (q .hse)
+  src-word : (j : ℕ) → j < 3 → (s : PllSettings) → pllIn p j ≡ Runs s → srcWord (p .three) (p .selectors .src) j ≡ srcOf (q .hse)
   src-word zero h s e = good .src
   src-word (suc zero) h s e = good .src
   src-word (suc (suc zero)) h s e = rw (good .third s e) (good .src)
   src-word (suc (suc (suc j))) h s e = absurd (omega arith)
 
   module _ (j : PllName) (s : PllSettings) (is : pllIn p (number j) ≡ Runs s) where
-    words : PllWords b (number j) s (srcWord (p .three) (p .src) (number j))
+    words : PllWords b (number j) s (srcWord (p .three) (p .selectors .src) (number j))
     words = pll-words p (number j) (number-below j) s is
 
     fine : GoodPll (pllAt q (number j) .strategy) (sourceOf q) s
@@ -168,25 +168,25 @@ module _ (q : Request) (p : Plan) (good : Consistent q p) where
   sys-by Unset c = gives-oscillator 32_000_000
   sys-by (Hz h) c = gives-oscillator h
 
-  through-pll1 : p .sw ≡ 3 → Steady q p (sysVia p) → StartedInteger q p pll1
+  through-pll1 : p .selectors .sw ≡ 3 → Steady q p (sysVia p) → StartedInteger q p pll1
   through-pll1 e st = subst (λ (n : ℕ). Steady q p (cond (eqb n 3) (by pll1) noPll)) e st
 
-  sys-from : System q p → Steady q p (sysVia p) → Gives (Tree.sysOf b fed) (p .sys)
+  sys-from : System q p → Steady q p (sysVia p) → Gives (Tree.sysOf b fed) (p .clocks .sys)
   unfolding Tree.sysOf
   sys-from (source w e) st = rw (core-words p .sw ∙ w, hsi-is, csi-is, hse-is) (same e (sys-by (q .hse) _))
-  sys-from (pll1P w e) st = rw (core-words p .sw ∙ w) (output-gives pll1 P (p .sys) (through-pll1 w st) (sym (p-clock (pllIn p 0)) ∙ e))
+  sys-from (pll1P w e) st = rw (core-words p .sw ∙ w) (output-gives pll1 P (p .clocks .sys) (through-pll1 w st) (sym (p-clock (pllIn p 0)) ∙ e))
 
-  sys-gives : Steady q p (sysVia p) → Gives (Tree.sysOf b fed) (p .sys)
+  sys-gives : Steady q p (sysVia p) → Gives (Tree.sysOf b fed) (p .clocks .sys)
   sys-gives st = sys-from (good .system) st
 
-  ahb-gives : Steady q p (sysVia p) → Gives (Tree.ahbOf b fed) (p .hclk)
+  ahb-gives : Steady q p (sysVia p) → Gives (Tree.ahbOf b fed) (p .buses .ahb .clock)
   unfolding Tree.ahbOf
-  ahb-gives st = rw (core-words p .hpre) (same (good .hclk) (gives-over (p .hpre) (good .hpre) (sys-gives st)))
+  ahb-gives st = rw (core-words p .hpre) (same (good .hclk) (gives-over (p .buses .ahb .pre) (good .hpre) (sys-gives st)))
 
-  apb-gives : (f ppre pclk : ℕ) → word b f ≡ ppre → among ppres ppre ≡ true → pclk ≡ p .hclk / ppre → Steady q p (sysVia p) → Gives (over (Tree.ahbOf b fed) (word b f)) pclk
+  apb-gives : (f ppre pclk : ℕ) → word b f ≡ ppre → among ppres ppre ≡ true → pclk ≡ p .buses .ahb .clock / ppre → Steady q p (sysVia p) → Gives (over (Tree.ahbOf b fed) (word b f)) pclk
   apb-gives f ppre pclk w h e st = rw w (same e (gives-over ppre (ppre-pos ppre h) (ahb-gives st)))
 
-  timer-gives : (f ppre tim : ℕ) → word b f ≡ ppre → among ppres ppre ≡ true → tim ≡ timerOf (p .hclk) ppre → Steady q p (sysVia p)
+  timer-gives : (f ppre tim : ℕ) → word b f ≡ ppre → among ppres ppre ≡ true → tim ≡ timerOf (p .buses .ahb .clock) ppre → Steady q p (sysVia p)
       → Gives (timerBy (word b 66) (word b f) (Tree.ahbOf b fed)) tim
   timer-gives f ppre tim w h e st = rw (w, core-words p .timpre) (same e (gives-timer ppre h (ahb-gives st)))
 
@@ -194,11 +194,11 @@ module _ (q : Request) (p : Plan) (good : Consistent q p) where
   fed-gives : (x : Hertz) (h : ℕ) → x ≡ Hz h → Gives (fromOscillator (fedBy x)) h
   fed-gives x h e = rw e (gives-oscillator h)
 
-  per-from : Peripheral q p → Gives (Tree.perOf b fed) (p .per)
+  per-from : Peripheral q p → Gives (Tree.perOf b fed) (p .clocks .per)
   unfolding Tree.perOf
   per-from (fromHsi w e) = rw (core-words p .ckpersel ∙ w, hsi-is) (same e (gives-oscillator 32_000_000))
   per-from (fromCsi w e) = rw (core-words p .ckpersel ∙ w, csi-is) (same e (gives-oscillator 4_000_000))
-  per-from (fromHse w e) = rw (core-words p .ckpersel ∙ w, hse-is) (fed-gives (q .hse) (p .per) e)
+  per-from (fromHse w e) = rw (core-words p .ckpersel ∙ w, hse-is) (fed-gives (q .hse) (p .clocks .per) e)
 
   -- ---- the MCOs
   planned-is : (x : Hertz) (c : ℕ) → planned x ≡ ok c → x ≡ Hz c
@@ -225,29 +225,29 @@ module _ (q : Request) (p : Plan) (good : Consistent q p) where
   or-true false = refl
 
   mco2-from : (x : Mco2Source) (c : ℕ) → isSet (q .hse) || not (fromHse1 (q .mco1source) || fromHse2 x) ≡ true
-      → mco2Input x (p .sys) (q .hse) (pClock (pllIn p 0)) (pClock (pllIn p 1)) ≡ ok c → Steady q p (mco2Via x p)
+      → mco2Input x (p .clocks .sys) (q .hse) (pClock (pllIn p 0)) (pClock (pllIn p 1)) ≡ ok c → Steady q p (mco2Via x p)
       → Gives (getD (Tree.sysOf b fed ∷ Tree.outputOf b fed pll2 P ∷ fromOscillator (Tree.hseOf b fed) ∷ Tree.outputOf b fed pll1 P ∷ fromOscillator (Tree.csiOf b fed) ∷ fromOscillator (Tree.lsiOf b fed) ∷ []) (mco2Code x) none) c
   unfolding mco2Input
-  mco2-from Mco2Source.Sysclk c a e st = let s : c ≡ p .sys = cc in same s (sys-gives st)
+  mco2-from Mco2Source.Sysclk c a e st = let s : c ≡ p .clocks .sys = cc in same s (sys-gives st)
   mco2-from Mco2Source.Pll2P c a e st = output-gives pll2 P c st (sym (p-clock (pllIn p 1)) ∙ planned-is _ c e)
   mco2-from Mco2Source.Hse c a e st = rw hse-is (stated-gives (q .hse) c _ a (or-true (fromHse1 (q .mco1source))) e)
   mco2-from Mco2Source.Pll1P c a e st = output-gives pll1 P c st (sym (p-clock (pllIn p 0)) ∙ planned-is _ c e)
   mco2-from Mco2Source.Csi c a e st = let s : c ≡ 4_000_000 = cc in rw csi-is (same s (gives-oscillator 4_000_000))
   mco2-from Mco2Source.Lsi c a e st = let s : c ≡ 32_000 = cc in rw lsi-is (same s (gives-oscillator 32_000))
 
-  mco1-gives : (r : ℕ) → p .mco1 ≡ Hz r → Steady q p (mco1Via (q .mco1source)) → Gives (Tree.mco1Of b fed) r
+  mco1-gives : (r : ℕ) → p .mcos .mco1 .clock ≡ Hz r → Steady q p (mco1Via (q .mco1source)) → Gives (Tree.mco1Of b fed) r
   unfolding Tree.mco1Of
   mco1-gives r e st =
       let d = good .mco1 r e in
       rw (core-words p .mco1sel ∙ good .mco1sel, core-words p .mco1pre)
-      (same (d .hertz) (gives-over (p .mco1pre) (d .above) (mco1-from (q .mco1source) (d .clock) (good .stated) (d .is) st)))
+      (same (d .hertz) (gives-over (p .mcos .mco1 .pre) (d .above) (mco1-from (q .mco1source) (d .clock) (good .stated) (d .is) st)))
 
-  mco2-gives : (r : ℕ) → p .mco2 ≡ Hz r → Steady q p (mco2Via (q .mco2source) p) → Gives (Tree.mco2Of b fed) r
+  mco2-gives : (r : ℕ) → p .mcos .mco2 .clock ≡ Hz r → Steady q p (mco2Via (q .mco2source) p) → Gives (Tree.mco2Of b fed) r
   unfolding Tree.mco2Of
   mco2-gives r e st =
       let d = good .mco2 r e in
       rw (core-words p .mco2sel ∙ good .mco2sel, core-words p .mco2pre)
-      (same (d .hertz) (gives-over (p .mco2pre) (d .above) (mco2-from (q .mco2source) (d .clock) (good .stated) (d .is) st)))
+      (same (d .hertz) (gives-over (p .mcos .mco2 .pre) (d .above) (mco2-from (q .mco2source) (d .clock) (good .stated) (d .is) st)))
 
   -- ---- every clock covered
   reads : (h r : ℕ) → Hz h ≡ Hz r → {c : Chain} → Gives c h → Gives c r
@@ -257,11 +257,11 @@ module _ (q : Request) (p : Plan) (good : Consistent q p) where
   unfolding pathOf
   clock-gives sys r e st = reads _ r e (sys-gives st)
   clock-gives hclk r e st = reads _ r e (ahb-gives st)
-  clock-gives pclk1 r e st = reads _ r e (apb-gives 62 (p .ppre1) (p .pclk1) (core-words p .ppre1) (good .ppre1) (good .pclk1) st)
-  clock-gives pclk2 r e st = reads _ r e (apb-gives 63 (p .ppre2) (p .pclk2) (core-words p .ppre2) (good .ppre2) (good .pclk2) st)
-  clock-gives pclk3 r e st = reads _ r e (apb-gives 64 (p .ppre3) (p .pclk3) (core-words p .ppre3) (good .ppre3) (good .pclk3) st)
-  clock-gives timx r e st = reads _ r e (timer-gives 62 (p .ppre1) (p .timx) (core-words p .ppre1) (good .ppre1) (good .timx) st)
-  clock-gives timy r e st = reads _ r e (timer-gives 63 (p .ppre2) (p .timy) (core-words p .ppre2) (good .ppre2) (good .timy) st)
+  clock-gives pclk1 r e st = reads _ r e (apb-gives 62 (p .buses .apb1 .pre) (p .buses .apb1 .clock) (core-words p .ppre1) (good .ppre1) (good .pclk1) st)
+  clock-gives pclk2 r e st = reads _ r e (apb-gives 63 (p .buses .apb2 .pre) (p .buses .apb2 .clock) (core-words p .ppre2) (good .ppre2) (good .pclk2) st)
+  clock-gives pclk3 r e st = reads _ r e (apb-gives 64 (p .buses .apb3 .pre) (p .buses .apb3 .clock) (core-words p .ppre3) (good .ppre3) (good .pclk3) st)
+  clock-gives timx r e st = reads _ r e (timer-gives 62 (p .buses .apb1 .pre) (p .clocks .timx) (core-words p .ppre1) (good .ppre1) (good .timx) st)
+  clock-gives timy r e st = reads _ r e (timer-gives 63 (p .buses .apb2 .pre) (p .clocks .timy) (core-words p .ppre2) (good .ppre2) (good .timy) st)
   clock-gives per r e st = reads _ r e (per-from (good .per))
   clock-gives hsi r e st = reads _ r e (rw hsi-is (same (good .hsi) (gives-oscillator 32_000_000)))
   clock-gives csi r e st = reads _ r e (rw csi-is (same (good .csi) (gives-oscillator 4_000_000)))

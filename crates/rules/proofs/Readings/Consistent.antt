@@ -75,14 +75,14 @@ pub record GoodPll (strategy : Strategy) (source : ℕ) (s : PllSettings) : Type
 
 -- where the system clock comes from
 pub data System (q : Request) (p : Plan) : Type 0 where
-  source : p .sw ≡ swOf false (q .hse) → p .sys ≡ sourceOf q → System q p
-  pll1P : p .sw ≡ 3 → pClock (pllIn p 0) ≡ Hz (p .sys) → System q p
+  source : p .selectors .sw ≡ swOf false (q .hse) → p .clocks .sys ≡ sourceOf q → System q p
+  pll1P : p .selectors .sw ≡ 3 → pClock (pllIn p 0) ≡ Hz (p .clocks .sys) → System q p
 
 -- where the peripheral clock comes from
 pub data Peripheral (q : Request) (p : Plan) : Type 0 where
-  fromHsi : p .ckpersel ≡ 0 → p .per ≡ 32_000_000 → Peripheral q p
-  fromCsi : p .ckpersel ≡ 1 → p .per ≡ 4_000_000 → Peripheral q p
-  fromHse : p .ckpersel ≡ 2 → q .hse ≡ Hz (p .per) → Peripheral q p
+  fromHsi : p .selectors .ckpersel ≡ 0 → p .clocks .per ≡ 32_000_000 → Peripheral q p
+  fromCsi : p .selectors .ckpersel ≡ 1 → p .clocks .per ≡ 4_000_000 → Peripheral q p
+  fromHse : p .selectors .ckpersel ≡ 2 → q .hse ≡ Hz (p .clocks .per) → Peripheral q p
 
 -- an MCO that is reported as r hertz, from its source's clock and its prescaler
 pub record Divided (input : Result ℕ) (pre r : ℕ) : Type 0 where
@@ -92,29 +92,29 @@ pub record Divided (input : Result ℕ) (pre r : ℕ) : Type 0 where
   pub hertz : r ≡ clock / pre
 
 pub record Consistent (q : Request) (p : Plan) : Type 0 where
-  pub hse : p .hse ≡ q .hse
-  pub hsi : p .hsi ≡ 32_000_000
-  pub csi : p .csi ≡ 4_000_000
-  pub hsi48 : p .hsi48 ≡ 48_000_000
-  pub lsi : p .lsi ≡ 32_000
-  pub src : p .src ≡ srcOf (q .hse)
+  pub hse : p .clocks .hse ≡ q .hse
+  pub hsi : p .clocks .hsi ≡ 32_000_000
+  pub csi : p .clocks .csi ≡ 4_000_000
+  pub hsi48 : p .clocks .hsi48 ≡ 48_000_000
+  pub lsi : p .clocks .lsi ≡ 32_000
+  pub src : p .selectors .src ≡ srcOf (q .hse)
   pub plls : (j : ℕ) → j < 3 → (s : PllSettings) → pllIn p j ≡ Runs s → GoodPll (pllAt q j .strategy) (sourceOf q) s
   pub third : (s : PllSettings) → pllIn p 2 ≡ Runs s → p .three ≡ true
   pub system : System q p
-  pub hpre : 1 ≤ p .hpre
-  pub hclk : p .hclk ≡ p .sys / p .hpre
-  pub ppre1 : among ppres (p .ppre1) ≡ true
-  pub ppre2 : among ppres (p .ppre2) ≡ true
-  pub ppre3 : among ppres (p .ppre3) ≡ true
-  pub pclk1 : p .pclk1 ≡ p .hclk / p .ppre1
-  pub pclk2 : p .pclk2 ≡ p .hclk / p .ppre2
-  pub pclk3 : p .pclk3 ≡ p .hclk / p .ppre3
-  pub timx : p .timx ≡ timerOf (p .hclk) (p .ppre1)
-  pub timy : p .timy ≡ timerOf (p .hclk) (p .ppre2)
+  pub hpre : 1 ≤ p .buses .ahb .pre
+  pub hclk : p .buses .ahb .clock ≡ p .clocks .sys / p .buses .ahb .pre
+  pub ppre1 : among ppres (p .buses .apb1 .pre) ≡ true
+  pub ppre2 : among ppres (p .buses .apb2 .pre) ≡ true
+  pub ppre3 : among ppres (p .buses .apb3 .pre) ≡ true
+  pub pclk1 : p .buses .apb1 .clock ≡ p .buses .ahb .clock / p .buses .apb1 .pre
+  pub pclk2 : p .buses .apb2 .clock ≡ p .buses .ahb .clock / p .buses .apb2 .pre
+  pub pclk3 : p .buses .apb3 .clock ≡ p .buses .ahb .clock / p .buses .apb3 .pre
+  pub timx : p .clocks .timx ≡ timerOf (p .buses .ahb .clock) (p .buses .apb1 .pre)
+  pub timy : p .clocks .timy ≡ timerOf (p .buses .ahb .clock) (p .buses .apb2 .pre)
   pub per : Peripheral q p
   pub stated : isSet (q .hse) || not (fromHse1 (q .mco1source) || fromHse2 (q .mco2source)) ≡ true
-  pub mco1sel : p .mco1sel ≡ mco1Code (q .mco1source)
-  pub mco2sel : p .mco2sel ≡ mco2Code (q .mco2source)
-  pub mco1 : (r : ℕ) → p .mco1 ≡ Hz r → Divided (mco1Input (q .mco1source) (q .hse) (qClock (pllIn p 0))) (p .mco1pre) r
-  pub mco2 : (r : ℕ) → p .mco2 ≡ Hz r
-      → Divided (mco2Input (q .mco2source) (p .sys) (q .hse) (pClock (pllIn p 0)) (pClock (pllIn p 1))) (p .mco2pre) r
+  pub mco1sel : p .selectors .mco1sel ≡ mco1Code (q .mco1source)
+  pub mco2sel : p .selectors .mco2sel ≡ mco2Code (q .mco2source)
+  pub mco1 : (r : ℕ) → p .mcos .mco1 .clock ≡ Hz r → Divided (mco1Input (q .mco1source) (q .hse) (qClock (pllIn p 0))) (p .mcos .mco1 .pre) r
+  pub mco2 : (r : ℕ) → p .mcos .mco2 .clock ≡ Hz r
+      → Divided (mco2Input (q .mco2source) (p .clocks .sys) (q .hse) (pClock (pllIn p 0)) (pClock (pllIn p 1))) (p .mcos .mco2 .pre) r

@@ -20,43 +20,47 @@ use Rattle.types.specs.declared.Planned.{Planned}
 use Rattle.types.specs.declared.Refusal.the-variants.{AboveLimit, McoHseUnstated, Pll1PUnlikeSystem, SourceZero}
 use Rattle.rules.specs.Document01.Result.{Result, refused, ok, _>>=_, _>>_, require}
 use Rattle.rules.specs.Document01.Hertz.{isSet, hertzOr}
-use Rattle.rules.specs.Document01.Request.{pllAt, limited, fromHse1, fromHse2, stated, pll1Asked, pll2Asked, sourceOf, systemOf, needsPll1, like, withP, forSystemClock, sourced}
-use Rattle.rules.specs.Document01.OnePll.{pllOf, pClock, qClock}
-use Rattle.rules.specs.Document01.Buses.{peripheralOf, ahbOf, apbOf, Bus}
-use Rattle.rules.specs.Document01.Mco.{Mco, mco1Input, mco2Input, mcoOf}
-use Rattle.rules.specs.Document01.Plan.{Plls, thirdOf, pllsOf, hsiReady, systemFrom, Buses, busesOf, Mcos, mcosOf, srcOf, swOf, planWith, chosenPlan, answered, answerTo}
+use Rattle.rules.specs.Document01.Request.{pllAt, limited, fromHse1, fromHse2, stated, pll1Asked, pll2Asked, sourceOf, systemOf, needsPll1, like, withP, sourced, configured, askedOf}
+use Rattle.rules.specs.Document01.OnePll.{pllOf, pClock, qClock, pllFrom}
+use Rattle.rules.specs.Document01.Buses.{peripheralOf, ahbOf, apbOf}
+use Rattle.rules.specs.Document01.Mco.{mco1Input, mco2Input, mcoOf}
+use Rattle.rules.specs.Document01.Plan.{pllsOf, hsiReady, systemFrom, busesOf, mcosOf, srcOf, swOf, planWith, chosenPlan, answered, answerTo, plannedAt, byNumber}
 use Rattle.rules.specs.Document01.Entries.{pllIn, planEntries, entriesOf}
 use Rattle.rules.specs.Document01.Bank.{applyAll, resetBank}
 use Rattle.rules.specs.Demands.Readings.{TwoReadings, Reads, BankReads}
+use Rattle.laws.proofs.Tests.{by-test}
 use Rattle.rules.proofs.Document01.Results.{bind-ok, then-ok, tested-ok, require-ok}
 use Rattle.rules.proofs.Readings.PllFacts.{pll-good, pll-p}
 use Rattle.rules.proofs.Readings.BusFacts.{GoodBus, ahb-good, GoodApb, apb-good, GoodPeripheral, atHsi, atCsi, atHse, peripheral-good, mco-good}
 use Rattle.rules.proofs.Readings.Words.{bankOf}
 use Rattle.rules.proofs.Readings.Consistent.{GoodPll, System, source, pll1P, Peripheral, fromHsi, fromCsi, fromHse, Divided, Consistent}
 use Rattle.rules.proofs.Readings.Clocks.{two-readings}
+use Rattle.types.specs.declared.Bus.{Bus}
+use Rattle.types.specs.declared.Mco.{Mco}
+use Rattle.types.specs.declared.Buses.{Buses}
+use Rattle.types.specs.declared.Mcos.{Mcos}
+use Rattle.rules.specs.Document01.Chip.{oddAt}
+use Rattle.types.specs.declared.PllPlan.{PllPlan}
 
 -- ---- the PLLs
-record GoodPlls (q : Request) (three : Bool) (l : Plls) : Type 0 where
+record GoodPlls (q : Request) (three : Bool) (l : List PllPlan) : Type 0 where
   stated : isSet (q .hse) || not (fromHse1 (q .mco1source) || fromHse2 (q .mco2source)) ≡ true
-  first : (s : PllSettings) → l .pll1 ≡ Runs s → GoodPll (pllAt q 0 .strategy) (sourceOf q) s
-  second : (s : PllSettings) → l .pll2 ≡ Runs s → GoodPll (pllAt q 1 .strategy) (sourceOf q) s
-  last : (s : PllSettings) → l .pll3 ≡ Runs s → (three ≡ true) × GoodPll (pllAt q 2 .strategy) (sourceOf q) s
+  first : (s : PllSettings) → pllFrom l 0 ≡ Runs s → GoodPll (pllAt q 0 .strategy) (sourceOf q) s
+  second : (s : PllSettings) → pllFrom l 1 ≡ Runs s → GoodPll (pllAt q 1 .strategy) (sourceOf q) s
+  last : (s : PllSettings) → pllFrom l 2 ≡ Runs s → (three ≡ true) × GoodPll (pllAt q 2 .strategy) (sourceOf q) s
   -- PLL1 P is there where the system clock needs it
-  needed : needsPll1 q ≡ true → (r : ℕ) × (pClock (l .pll1) ≡ Hz r)
+  needed : needsPll1 q ≡ true → (r : ℕ) × (pClock (pllFrom l 0) ≡ Hz r)
 
 -- what PLL1 is asked for keeps its strategy, and has P where the system clock needs it
-asked : (t : Bool) (s : ℕ) (a b : PllRequest) → forSystemClock t s a ≡ ok b → (b .strategy ≡ a .strategy) × (t ≡ true → b .p ≡ Hz s)
-unfolding forSystemClock
-asked false s a b e = let f : a ≡ b = cc in (sym (ap (λ (x : PllRequest). x .strategy) f), λ z. absurd (let y : _≡_ {A = ℕ} 0 1 = cc in omega arith))
-asked true s a b e =
-    let e₁ = tested-ok (like (a .p) s) Pll1PUnlikeSystem (ok (withP a s)) b e in
-    let last : ok (withP a s) ≡ ok b = e₁ .1 in
-    let f : withP a s ≡ b = cc in
-    (sym (ap (λ (x : PllRequest). x .strategy) f), λ z. sym (ap (λ (x : PllRequest). x .p) f))
+kept-strategy : (q : Request) → askedOf q 0 .strategy ≡ pllAt q 0 .strategy
+kept-strategy q = by-test (needsPll1 q) (λ t. rw t) (λ f. rw f)
 
-third-good : (q : Request) (odd three : Bool) (s : PllSettings) → cond three (pllOf odd (sourceOf q) (pllAt q 2)) (ok Idle) ≡ ok (Runs s)
+asked-p : (q : Request) → needsPll1 q ≡ true → askedOf q 0 .p ≡ Hz (systemOf q)
+asked-p q t = rw t
+
+third-good : (q : Request) (odd three : Bool) (s : PllSettings) → cond three (pllOf odd (sourceOf q) (askedOf q 2)) (ok Idle) ≡ ok (Runs s)
     → (three ≡ true) × GoodPll (pllAt q 2 .strategy) (sourceOf q) s
-third-good q odd true s e = (refl, pll-good odd (sourceOf q) (pllAt q 2) s e)
+third-good q odd true s e = (refl, pll-good odd (sourceOf q) (askedOf q 2) s e)
 third-good q odd false s e = absurd (let y : _≡_ {A = ℕ} 0 1 = cc in omega arith)
 
 -- the steps of the PLLs, each with its value
@@ -64,45 +68,42 @@ module _ (q : Request) (c : ChipState) where
   abbrev src : ℕ
   src = sourceOf q
 
-  made-good : (a : PllRequest) (x y z : Pll) → isSet (q .hse) || not (fromHse1 (q .mco1source) || fromHse2 (q .mco2source)) ≡ true
-      → forSystemClock (needsPll1 q) (systemOf q) (pll1Asked q) ≡ ok a → pllOf (c .odd1) src a ≡ ok x → pllOf (c .odd2) src (pll2Asked q) ≡ ok y → thirdOf q c ≡ ok z
-      → GoodPlls q (c .three) (record { pll1 = x; pll2 = y; pll3 = z })
-  made-good a x y z st e₁ e₂ e₃ e₄ =
-      let k = asked (needsPll1 q) (systemOf q) (pll1Asked q) a e₁ in
-      record {
-        stated = st;
-        first = λ s w. subst (λ (t : Strategy). GoodPll t src s) (k .0) (pll-good (c .odd1) src a s (e₂ ∙ ap ok w));
-        second = λ s w. pll-good (c .odd2) src (pll2Asked q) s (e₃ ∙ ap ok w);
-        last = λ s w. third-good q (c .odd3) (c .three) s (e₄ ∙ ap ok w);
-        needed = λ t. pll-p (c .odd1) src a x (systemOf q) (k .1 t) e₂;
-      }
+  made-good : (x y z : Pll) → isSet (q .hse) || not (fromHse1 (q .mco1source) || fromHse2 (q .mco2source)) ≡ true
+      → plannedAt q c 0 ≡ ok x → plannedAt q c 1 ≡ ok y → plannedAt q c 2 ≡ ok z → GoodPlls q (c .three) (byNumber x y z)
+  made-good x y z st e₁ e₂ e₃ = record {
+    stated = st;
+    first = λ s w. subst (λ (t : Strategy). GoodPll t src s) (kept-strategy q) (pll-good (oddAt c 0) src (askedOf q 0) s (e₁ ∙ ap ok w));
+    second = λ s w. pll-good (oddAt c 1) src (askedOf q 1) s (e₂ ∙ ap ok w);
+    last = λ s w. third-good q (oddAt c 2) (c .three) s (e₃ ∙ ap ok w);
+    needed = λ t. pll-p (oddAt c 0) src (askedOf q 0) x (systemOf q) (asked-p q t) e₁;
+  }
 
-  abbrev after3 : Pll → Pll → Pll → Result Plls
-  after3 x y z = ok (record { pll1 = x; pll2 = y; pll3 = z })
+  abbrev after3 : Pll → Pll → Pll → Result (List PllPlan)
+  after3 x y z = ok (byNumber x y z)
 
-  abbrev after2 : Pll → Pll → Result Plls
-  after2 x y = thirdOf q c >>= after3 x y
+  abbrev after2 : Pll → Pll → Result (List PllPlan)
+  after2 x y = plannedAt q c 2 >>= after3 x y
 
-  abbrev after1 : Pll → Result Plls
-  after1 x = pllOf (c .odd2) src (pll2Asked q) >>= after2 x
+  abbrev after1 : Pll → Result (List PllPlan)
+  after1 x = plannedAt q c 1 >>= after2 x
 
-  abbrev after0 : PllRequest → Result Plls
-  after0 a = sourced q >> (pllOf (c .odd1) src a >>= after1)
+  hse-stated : (u : Unit {0}) → configured q ≡ ok u → isSet (q .hse) || not (fromHse1 (q .mco1source) || fromHse2 (q .mco2source)) ≡ true
+  unfolding configured
+  hse-stated u e =
+      let e₁ = then-ok (limited q) _ u e in
+      tested-ok (isSet (q .hse) || not (fromHse1 (q .mco1source) || fromHse2 (q .mco2source))) McoHseUnstated _ u (e₁ .2) .0
 
-  plls-good : (l : Plls) → pllsOf q c ≡ ok l → GoodPlls q (c .three) l
+  plls-good : (l : List PllPlan) → pllsOf q c ≡ ok l → GoodPlls q (c .three) l
   unfolding pllsOf
   plls-good l e =
-      let e₁ = then-ok (limited q) _ l e in
-      let e₂ = tested-ok (isSet (q .hse) || not (fromHse1 (q .mco1source) || fromHse2 (q .mco2source))) McoHseUnstated _ l (e₁ .2) in
-      let e₃ = bind-ok (forSystemClock (needsPll1 q) (systemOf q) (pll1Asked q)) after0 l (e₂ .1) in
-      let e₄ = then-ok (sourced q) (pllOf (c .odd1) src (e₃ .0) >>= after1) l (e₃ .2) in
-      let e₅ = bind-ok (pllOf (c .odd1) src (e₃ .0)) after1 l (e₄ .2) in
-      let e₆ = bind-ok (pllOf (c .odd2) src (pll2Asked q)) (after2 (e₅ .0)) l (e₅ .2) in
-      let e₇ = bind-ok (thirdOf q c) (after3 (e₅ .0) (e₆ .0)) l (e₆ .2) in
-      same-plls l (record { pll1 = e₅ .0; pll2 = e₆ .0; pll3 = e₇ .0 }) (e₇ .2) (made-good (e₃ .0) (e₅ .0) (e₆ .0) (e₇ .0) (e₂ .0) (e₃ .1) (e₅ .1) (e₆ .1) (e₇ .1))
+      let e₁ = then-ok (configured q) (plannedAt q c 0 >>= after1) l e in
+      let e₂ = bind-ok (plannedAt q c 0) after1 l (e₁ .2) in
+      let e₃ = bind-ok (plannedAt q c 1) (after2 (e₂ .0)) l (e₂ .2) in
+      let e₄ = bind-ok (plannedAt q c 2) (after3 (e₂ .0) (e₃ .0)) l (e₃ .2) in
+      same-plls l (byNumber (e₂ .0) (e₃ .0) (e₄ .0)) (e₄ .2) (made-good (e₂ .0) (e₃ .0) (e₄ .0) (hse-stated (e₁ .0) (e₁ .1)) (e₂ .1) (e₃ .1) (e₄ .1))
     where
-      same-plls : (l k : Plls) → ok k ≡ ok l → GoodPlls q (c .three) k → GoodPlls q (c .three) l
-      same-plls l k e g = let f : k ≡ l = cc in subst (λ (x : Plls). GoodPlls q (c .three) x) f g
+      same-plls : (l k : List PllPlan) → ok k ≡ ok l → GoodPlls q (c .three) k → GoodPlls q (c .three) l
+      same-plls l k e g = let f : k ≡ l = cc in subst (λ (x : List PllPlan). GoodPlls q (c .three) x) f g
 
 -- ---- the buses
 record GoodBuses (system : ℕ) (b : Buses) : Type 0 where
@@ -143,12 +144,12 @@ module _ (q : Request) (system : ℕ) where
       })
 
 -- ---- the MCOs
-module _ (q : Request) (l : Plls) (system : ℕ) where
+module _ (q : Request) (l : List PllPlan) (system : ℕ) where
   abbrev input1 : Result ℕ
-  input1 = mco1Input (q .mco1source) (q .hse) (qClock (l .pll1))
+  input1 = mco1Input (q .mco1source) (q .hse) (qClock (pllFrom l 0))
 
   abbrev input2 : Result ℕ
-  input2 = mco2Input (q .mco2source) system (q .hse) (pClock (l .pll1)) (pClock (l .pll2))
+  input2 = mco2Input (q .mco2source) system (q .hse) (pClock (pllFrom l 0)) (pClock (pllFrom l 1))
 
   record GoodMcos (m : Mcos) : Type 0 where
     mco1 : (r : ℕ) → m .mco1 .clock ≡ Hz r → Divided input1 (m .mco1 .pre) r
@@ -185,7 +186,7 @@ module _ (q : Request) (l : Plls) (system : ℕ) where
       })
 
 -- ---- the plan of what was chosen
-module _ (q : Request) (c : ChipState) (l : Plls) (b : Buses) (m : Mcos) (g : GoodPlls q (c .three) l) (u : GoodBuses (systemFrom q l) b) (v : GoodMcos q l (systemFrom q l) m) where
+module _ (q : Request) (c : ChipState) (l : List PllPlan) (b : Buses) (m : Mcos) (g : GoodPlls q (c .three) l) (u : GoodBuses (systemFrom q l) b) (v : GoodMcos q l (systemFrom q l) m) where
   abbrev plan : Plan
   plan = planWith q c l b m
 
@@ -202,11 +203,11 @@ module _ (q : Request) (c : ChipState) (l : Plls) (b : Buses) (m : Mcos) (g : Go
 
   system-by : (t : Bool) → needsPll1 q ≡ t → System q plan
   unfolding planWith
-  system-by false e = source (ap (λ (t : Bool). swOf t (q .hse)) e) (ap (λ (t : Bool). cond t (hertzOr (pClock (l .pll1)) 0) (sourceOf q)) e)
+  system-by false e = source (ap (λ (t : Bool). swOf t (q .hse)) e) (ap (λ (t : Bool). cond t (hertzOr (pClock (pllFrom l 0)) 0) (sourceOf q)) e)
   system-by true e =
       let y = g .needed e in
-      let sys : systemFrom q l ≡ hertzOr (pClock (l .pll1)) 0 = ap (λ (t : Bool). cond t (hertzOr (pClock (l .pll1)) 0) (sourceOf q)) e in
-      let hz : hertzOr (pClock (l .pll1)) 0 ≡ y .0 = ap (λ (x : Hertz). hertzOr x 0) (y .1) in
+      let sys : systemFrom q l ≡ hertzOr (pClock (pllFrom l 0)) 0 = ap (λ (t : Bool). cond t (hertzOr (pClock (pllFrom l 0)) 0) (sourceOf q)) e in
+      let hz : hertzOr (pClock (pllFrom l 0)) 0 ≡ y .0 = ap (λ (x : Hertz). hertzOr x 0) (y .1) in
       pll1P (ap (λ (t : Bool). swOf t (q .hse)) e) (y .1 ∙ ap Hz (sym (sys ∙ hz)))
 
   peripheral-by : GoodPeripheral (q .hse) (peripheralOf (q .peripheral) (q .hse)) → Peripheral q plan
@@ -247,20 +248,20 @@ module _ (q : Request) (c : ChipState) (l : Plls) (b : Buses) (m : Mcos) (g : Go
 
 -- ---- every plan that the rules give
 module _ (q : Request) (c : ChipState) where
-  abbrev step3 : Plls → Buses → Mcos → Result Plan
+  abbrev step3 : List PllPlan → Buses → Mcos → Result Plan
   step3 l b m = ok (planWith q c l b m)
 
-  abbrev step2 : Plls → Buses → Result Plan
+  abbrev step2 : List PllPlan → Buses → Result Plan
   step2 l b = mcosOf q l (systemFrom q l) >>= step3 l b
 
-  abbrev step1 : Plls → Result Plan
+  abbrev step1 : List PllPlan → Result Plan
   step1 l = hsiReady c >> (busesOf q (systemFrom q l) >>= step2 l)
 
   pub chosen-good : (p : Plan) → chosenPlan q c ≡ ok p → Consistent q p
   unfolding chosenPlan
   chosen-good p e =
       let e₁ = bind-ok (pllsOf q c) step1 p e in
-      let l : Plls = e₁ .0 in
+      let l : List PllPlan = e₁ .0 in
       let e₂ = then-ok (hsiReady c) (busesOf q (systemFrom q l) >>= step2 l) p (e₁ .2) in
       let e₃ = bind-ok (busesOf q (systemFrom q l)) (step2 l) p (e₂ .2) in
       let e₄ = bind-ok (mcosOf q l (systemFrom q l)) (step3 l (e₃ .0)) p (e₃ .2) in

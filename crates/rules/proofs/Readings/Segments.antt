@@ -17,7 +17,7 @@ use Rattle.types.specs.declared.Pll.the-variants.{Idle, Runs}
 use Rattle.types.specs.declared.Hertz.{Hertz}
 use Rattle.types.specs.declared.Hertz.the-variants.{Unset, Hz}
 use Rattle.types.specs.declared.Plan.{Plan}
-use Rattle.rules.specs.Document01.Entries.{outputEntries, fractionEntries, baseEntries, settingEntries, setupEntries, pllIn, clockEntries, hseEntries, sourceEntries, outputStart, startEntries, busEntries, planEntries}
+use Rattle.rules.specs.Document01.Entries.{outputEntries, fractionEntries, baseEntries, settingEntries, setupEntries, pllIn, clockEntries, hseEntries, sourceEntries, outputStart, startEntries, busEntries, planEntries, listWith}
 use Rattle.rules.proofs.Document01.Last.{valAll, val-append, avoid}
 
 -- ---- three segments, one for each PLL
@@ -87,13 +87,13 @@ pub hse-keeps : (x : Hertz) (y : Bool) (f d : ℕ) → f ≢ 58 → f ≢ 59 →
 hse-keeps Unset y f d a b = refl
 hse-keeps (Hz n) y f d a b = avoid (hseEntries (Hz n) y) f d (omega arith)
 
-pub clock-keeps : (p : Plan) (f d : ℕ) → f < 45 → valAll (clockEntries p) f d ≡ d
+pub clock-keeps : (p : Plan) (f d : ℕ) → f < 45 → valAll (clockEntries (p .waits) (p .selectors) (p .mcos)) f d ≡ d
 unfolding clockEntries
-clock-keeps p f d h = avoid (clockEntries p) f d (omega arith)
+clock-keeps p f d h = avoid (clockEntries (p .waits) (p .selectors) (p .mcos)) f d (omega arith)
 
-pub bus-keeps : (p : Plan) (f d : ℕ) → f < 45 → valAll (busEntries p) f d ≡ d
+pub bus-keeps : (p : Plan) (f d : ℕ) → f < 45 → valAll (busEntries (p .buses) (p .selectors)) f d ≡ d
 unfolding busEntries
-bus-keeps p f d h = avoid (busEntries p) f d (omega arith)
+bus-keeps p f d h = avoid (busEntries (p .buses) (p .selectors)) f d (omega arith)
 
 -- ---- the whole list, segment by segment
 module _ (p : Plan) where
@@ -104,8 +104,8 @@ module _ (p : Plan) where
   starts i = startEntries i (pllIn p i)
 
   pub whole-val : (f d : ℕ) → valAll (planEntries p) f d
-      ≡ valAll (busEntries p) f (valAll (starts 2) f (valAll (starts 1) f (valAll (starts 0) f
-      (valAll (sourceEntries (p .three) (p .src)) f (valAll (hseEntries (p .hse) (p .bypass)) f (valAll (clockEntries p) f
+      ≡ valAll (busEntries (p .buses) (p .selectors)) f (valAll (starts 2) f (valAll (starts 1) f (valAll (starts 0) f
+      (valAll (sourceEntries (p .three) (p .selectors .src)) f (valAll (hseEntries (p .clocks .hse) (p .bypass)) f (valAll (clockEntries (p .waits) (p .selectors) (p .mcos)) f
       (valAll (setups 2) f (valAll (setups 1) f (valAll (setups 0) f d)))))))))
-  unfolding planEntries
+  unfolding listWith
   whole-val f d = simp val-append

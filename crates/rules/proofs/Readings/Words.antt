@@ -58,10 +58,10 @@ module _ (p : Plan) (j k : ℕ) (j3 : j < 3) where
   setups-keep h a d = none-own (setups p) at (λ i e l. setup-keeps i (pllIn p i) at e (λ x y. other-field i j k x h (omega arith) (omega arith))) d
 
   -- SRC, HSE and the clocks between
-  middle-keeps : k < 15 → k ≢ 12 → (d : ℕ) → valAll (sourceEntries (p .three) (p .src)) at (valAll (hseEntries (p .hse) (p .bypass)) at (valAll (clockEntries p) at d)) ≡ d
+  middle-keeps : k < 15 → k ≢ 12 → (d : ℕ) → valAll (sourceEntries (p .three) (p .selectors .src)) at (valAll (hseEntries (p .clocks .hse) (p .bypass)) at (valAll (clockEntries (p .waits) (p .selectors) (p .mcos)) at d)) ≡ d
   middle-keeps h a d =
-      source-keeps (p .three) (p .src) at _ (other-field 0 j k 12 h (omega arith) a) (other-field 1 j k 12 h (omega arith) a) (other-field 2 j k 12 h (omega arith) a)
-      ∙ hse-keeps (p .hse) (p .bypass) at _ (omega arith) (omega arith) ∙ clock-keeps p at d (omega arith)
+      source-keeps (p .three) (p .selectors .src) at _ (other-field 0 j k 12 h (omega arith) a) (other-field 1 j k 12 h (omega arith) a) (other-field 2 j k 12 h (omega arith) a)
+      ∙ hse-keeps (p .clocks .hse) (p .bypass) at _ (omega arith) (omega arith) ∙ clock-keeps p at d (omega arith)
 
   -- fields 0 to 11: the PLL's own list
   own-decides : k < 12 → (d : ℕ) → valAll (planEntries p) at d ≡ valAll (setups p j) at d
@@ -70,11 +70,11 @@ module _ (p : Plan) (j k : ℕ) (j3 : j < 3) where
       ∙ own-only (setups p) at j j3 (λ i e n. setup-keeps i (pllIn p i) at e (λ x y. other-pll i j k x n (omega arith) (omega arith))) d
 
 -- SRC
-source-decides : (p : Plan) (j : ℕ) → j < 3 → (d : ℕ) → valAll (planEntries p) (15 * j + 12) d ≡ valAll (sourceEntries (p .three) (p .src)) (15 * j + 12) d
+source-decides : (p : Plan) (j : ℕ) → j < 3 → (d : ℕ) → valAll (planEntries p) (15 * j + 12) d ≡ valAll (sourceEntries (p .three) (p .selectors .src)) (15 * j + 12) d
 source-decides p j h d =
     whole-val p (15 * j + 12) d ∙ bus-keeps p (15 * j + 12) _ (omega arith) ∙ starts-keep p j 12 h (omega arith) (omega arith) _
-    ∙ ap (valAll (sourceEntries (p .three) (p .src)) (15 * j + 12))
-    (hse-keeps (p .hse) (p .bypass) (15 * j + 12) _ (omega arith) (omega arith) ∙ clock-keeps p (15 * j + 12) _ (omega arith)
+    ∙ ap (valAll (sourceEntries (p .three) (p .selectors .src)) (15 * j + 12))
+    (hse-keeps (p .clocks .hse) (p .bypass) (15 * j + 12) _ (omega arith) (omega arith) ∙ clock-keeps p (15 * j + 12) _ (omega arith)
     ∙ setups-keep p j 12 h (omega arith) (omega arith) d)
 
 -- ON
@@ -129,30 +129,30 @@ module _ (p : Plan) (j : ℕ) (j3 : j < 3) (s : PllSettings) (is : pllIn p j ≡
   own-word k v h e =
       pll-word p j k j3 (omega arith) ∙ own-decides p j k j3 h 0 ∙ ap (λ (x : Pll). valAll (setupEntries j x) (15 * j + k) 0) is ∙ e
 
-  pub pll-words : PllWords (bankOf p) j s (srcWord (p .three) (p .src) j)
+  pub pll-words : PllWords (bankOf p) j s (srcWord (p .three) (p .selectors .src) j)
   pll-words = record {
     m = own-word 2 _ (omega arith) (own-m j s);
     n = own-word 3 _ (omega arith) (own-n j s);
     fracen = own-word 5 _ (omega arith) (own-fracen j s);
     divides = λ o. own-word (divider o) _ (divider-below o) (own-divider j s o);
     enables = λ o. own-word (enable o) _ (enable-below o) (own-enable j s o);
-    source = pll-word p j 12 j3 (omega arith) ∙ source-decides p j j3 0 ∙ source-val (p .three) (p .src) j j3;
+    source = pll-word p j 12 j3 (omega arith) ∙ source-decides p j j3 0 ∙ source-val (p .three) (p .selectors .src) j j3;
     on = pll-word p j 13 j3 (omega arith) ∙ start-decides p j j3 0 ∙ ap (λ (x : Pll). valAll (startEntries j x) (15 * j + 13) 0) is ∙ start-val j (s .p);
   }
 
 -- ---- the fields of no PLL
-others : (p : Plan) (f d : ℕ) → 45 ≤ f → valAll (planEntries p) f d ≡ valAll (busEntries p) f (valAll (hseEntries (p .hse) (p .bypass)) f (valAll (clockEntries p) f d))
+others : (p : Plan) (f d : ℕ) → 45 ≤ f → valAll (planEntries p) f d ≡ valAll (busEntries (p .buses) (p .selectors)) f (valAll (hseEntries (p .clocks .hse) (p .bypass)) f (valAll (clockEntries (p .waits) (p .selectors) (p .mcos)) f d))
 others p f d h =
     whole-val p f d
-    ∙ ap (valAll (busEntries p) f)
+    ∙ ap (valAll (busEntries (p .buses) (p .selectors)) f)
     (none-own (starts p) f (λ i e l. start-keeps i (pllIn p i) f e (omega arith)) _
-    ∙ source-keeps (p .three) (p .src) f _ (omega arith) (omega arith) (omega arith)
-    ∙ ap (λ (x : ℕ). valAll (hseEntries (p .hse) (p .bypass)) f (valAll (clockEntries p) f x))
+    ∙ source-keeps (p .three) (p .selectors .src) f _ (omega arith) (omega arith) (omega arith)
+    ∙ ap (λ (x : ℕ). valAll (hseEntries (p .clocks .hse) (p .bypass)) f (valAll (clockEntries (p .waits) (p .selectors) (p .mcos)) f x))
     (none-own (setups p) f (λ i e l. setup-keeps i (pllIn p i) f e (λ x y. omega arith)) d))
 
 -- a field that HSE's entries leave is what the constant segments make of the reset word, which computes
-plain : (p : Plan) (f : ℕ) → 45 ≤ f → f < 82 → f ≢ 58 → f ≢ 59 → word (bankOf p) f ≡ valAll (busEntries p) f (valAll (clockEntries p) f (word resetBank f))
-plain p f l u a b = word-of p f u ∙ others p f _ l ∙ ap (valAll (busEntries p) f) (hse-keeps (p .hse) (p .bypass) f _ a b)
+plain : (p : Plan) (f : ℕ) → 45 ≤ f → f < 82 → f ≢ 58 → f ≢ 59 → word (bankOf p) f ≡ valAll (busEntries (p .buses) (p .selectors)) f (valAll (clockEntries (p .waits) (p .selectors) (p .mcos)) f (word resetBank f))
+plain p f l u a b = word-of p f u ∙ others p f _ l ∙ ap (valAll (busEntries (p .buses) (p .selectors)) f) (hse-keeps (p .clocks .hse) (p .bypass) f _ a b)
 
 abbrev pub hseBit : Hertz → ℕ
 hseBit Unset = 0
@@ -166,18 +166,18 @@ pub record CoreWords (b : List ℕ) (p : Plan) : Type 0 where
   pub lsion : word b 45 ≡ 1
   pub csion : word b 50 ≡ 1
   pub hsi48on : word b 52 ≡ 1
-  pub mco1sel : word b 54 ≡ p .mco1sel
-  pub mco1pre : word b 55 ≡ p .mco1pre
-  pub mco2sel : word b 56 ≡ p .mco2sel
-  pub mco2pre : word b 57 ≡ p .mco2pre
-  pub hseon : word b 58 ≡ hseBit (p .hse)
-  pub hpre : word b 61 ≡ p .hpre
-  pub ppre1 : word b 62 ≡ p .ppre1
-  pub ppre2 : word b 63 ≡ p .ppre2
-  pub ppre3 : word b 64 ≡ p .ppre3
-  pub ckpersel : word b 65 ≡ p .ckpersel
+  pub mco1sel : word b 54 ≡ p .selectors .mco1sel
+  pub mco1pre : word b 55 ≡ p .mcos .mco1 .pre
+  pub mco2sel : word b 56 ≡ p .selectors .mco2sel
+  pub mco2pre : word b 57 ≡ p .mcos .mco2 .pre
+  pub hseon : word b 58 ≡ hseBit (p .clocks .hse)
+  pub hpre : word b 61 ≡ p .buses .ahb .pre
+  pub ppre1 : word b 62 ≡ p .buses .apb1 .pre
+  pub ppre2 : word b 63 ≡ p .buses .apb2 .pre
+  pub ppre3 : word b 64 ≡ p .buses .apb3 .pre
+  pub ckpersel : word b 65 ≡ p .selectors .ckpersel
   pub timpre : word b 66 ≡ 0
-  pub sw : word b 67 ≡ p .sw
+  pub sw : word b 67 ≡ p .selectors .sw
   pub hsion : word b 76 ≡ 1
   pub hsidiv : word b 77 ≡ 2
 
@@ -191,7 +191,7 @@ core-words p = record {
   mco1pre = plain p 55 (omega arith) (omega arith) (omega arith) (omega arith);
   mco2sel = plain p 56 (omega arith) (omega arith) (omega arith) (omega arith);
   mco2pre = plain p 57 (omega arith) (omega arith) (omega arith) (omega arith);
-  hseon = word-of p 58 (omega arith) ∙ others p 58 _ (omega arith) ∙ hse-val (p .hse) (p .bypass);
+  hseon = word-of p 58 (omega arith) ∙ others p 58 _ (omega arith) ∙ hse-val (p .clocks .hse) (p .bypass);
   hpre = plain p 61 (omega arith) (omega arith) (omega arith) (omega arith);
   ppre1 = plain p 62 (omega arith) (omega arith) (omega arith) (omega arith);
   ppre2 = plain p 63 (omega arith) (omega arith) (omega arith) (omega arith);

@@ -1,6 +1,6 @@
 -- The two calls on bytes: the answer is the number of the first row that holds, and a plan where none does.
 use mathlib.Core.Path.{_≡_, refl}
-use mathlib.Core.Bool.{Bool, true, false, not, _&&_, _||_}
+use mathlib.Core.Bool.{Bool, true, false, not, _&&_, _||_, cond}
 use mathlib.Core.List.{List, append-nil}
 use mathlib.Core.Option.{Option, none, some}
 use Prim.Native.Nat.{ℕ}
@@ -8,15 +8,18 @@ use lib.Dec.{ltb, eqb}
 use Rattle.types.specs.declared.Chip.{Chip}
 use Rattle.types.specs.declared.Refusal.the-variants.{OutsideCodes, BankLength}
 use Rattle.rules.specs.Document01.Result.{ok, _>>_, require}
-use Rattle.rules.specs.Document01.Chip.{chipOf}
-use Rattle.rules.specs.Document01.Plan.{Asked, chosenPlan, requestOf, planOf, bankPlanOf}
+use Rattle.rules.specs.Document01.Chip.{chipOf, oddAt, permission}
+use Rattle.rules.specs.Document01.Plan.{Asked, chosenPlan, requestOf, planOf, bankPlanOf, answerTyped, answerTo}
 use Rattle.rules.specs.Demands.Rows.{firstThat, AsRows}
-use Rattle.rules.specs.Demands.ByPlaces.{stateOf, requestAt}
+use Rattle.rules.specs.Demands.ByPlaces.{stateOf, requestAt, partAt}
 use Rattle.rules.specs.Demands.Refused.{chipRows, byteRows, codeRows, planRows, bankRows}
 use Rattle.rules.proofs.Refused.Says.{value, saidBy, Says, says-then, says-ok, says-tested}
 use Rattle.rules.proofs.Refused.OnePll.{lt-turned, twice}
 use Rattle.rules.proofs.Refused.Typed.{says-plan, as-rows}
 use Rattle.rules.proofs.Refused.Bytes.{says-request}
+use Rattle.types.specs.declared.PllRequest.{PllRequest}
+use Rattle.rules.specs.Document01.Bytes.{isNoPart, noPart}
+use Rattle.rules.specs.Document01.Request.{pllAt}
 
 -- ---- 1
 -- the three permissions
@@ -38,7 +41,7 @@ says-chip : (c : Chip) → Says (chipOf c) (stateOf c) (chipRows c)
 unfolding chipOf
 says-chip c =
     says-tested _ OutsideCodes _ (twice (eqb (c .plls) 2 || eqb (c .plls) 3))
-    (says-tested _ OutsideCodes _ (bits-turned (c .odd1) (c .odd2) (c .odd3))
+    (says-tested _ OutsideCodes _ (bits-turned (permission c 0) (permission c 1) (permission c 2))
     (says-tested _ OutsideCodes (ltb 3 (c .scale)) (lt-turned (c .scale) 4)
     (says-tested _ OutsideCodes (ltb 1 (c .hsion)) (lt-turned (c .hsion) 2)
     (says-tested _ OutsideCodes _ (hsidiv-turned (eqb (c .hsidiv) 1) (eqb (c .hsidiv) 2) (eqb (c .hsidiv) 4) (eqb (c .hsidiv) 8)) (says-ok (stateOf c))))))
@@ -59,6 +62,19 @@ by-places bytes chip a e = go (firstThat (codeRows bytes chip)) (rw e at (says-a
     go : (o : Option ℕ) → value a ≡ saidBy o (askedFor bytes chip) → a ≡ askedFor bytes chip
     go none e = cc
     go (some n) e = cc
+
+-- and have nothing in the third part of a request for two PLLs
+fits : (three : Bool) (p : PllRequest) → three || isNoPart (cond three p noPart) ≡ true
+fits true p = refl
+fits false p = refl
+
+nothing-there : (three : Bool) (bytes : List ℕ) → three || isNoPart (pllAt (requestAt three bytes) 2) ≡ true
+unfolding requestAt
+nothing-there three bytes = fits three (partAt bytes 90)
+
+pub third-fits : (bytes : List ℕ) (chip : Chip) (a : Asked) → requestOf bytes chip ≡ ok a → answerTyped (a .request) (a .chip) ≡ answerTo (a .request) (a .chip)
+unfolding answerTyped answerTo
+third-fits bytes chip a e = rw (by-places bytes chip a e, nothing-there (stateOf chip .three) bytes)
 
 -- ---- the calls
 pub plan-rows : (bytes : List ℕ) (chip : Chip) → AsRows (planRows bytes chip) (planOf bytes chip .answer)

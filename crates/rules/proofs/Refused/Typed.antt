@@ -22,19 +22,19 @@ use Rattle.types.specs.declared.Pll.the-variants.{Idle}
 use Rattle.types.specs.declared.Refusal.{Refusal}
 use Rattle.types.specs.declared.Refusal.the-variants.{AboveLimit, McoHseUnstated, Pll1PUnlikeSystem, SourceZero, HsiOff, HsidivNot2, BusZero, AhbZero, McoZero, McoRatio}
 use Rattle.types.specs.declared.Answer.the-variants.{Accepted, Refused}
-use Rattle.rules.specs.Document01.Chip.{divisorOf}
+use Rattle.rules.specs.Document01.Chip.{divisorOf, oddAt, hasPll}
 use Rattle.rules.specs.Document01.Result.{Result, refused, ok, _>>=_, _>>_}
 use Rattle.rules.specs.Document01.Refusals.{numberOf}
 use Rattle.rules.specs.Document01.Hertz.{isSet, hertzOr, ratioOf, notZero}
-use Rattle.rules.specs.Document01.Request.{pllAt, within, fromHse1, fromHse2, pll1Asked, sourceOf, systemOf, needsPll1, like, withP, forSystemClock, askedOf}
-use Rattle.rules.specs.Document01.OnePll.{pllOf, pClock, qClock}
-use Rattle.rules.specs.Document01.Buses.{Bus, hpreFor, ppreFor, ahbOf, apbOf}
-use Rattle.rules.specs.Document01.Mco.{Mco, mco1Input, mco2Input, mcoOf}
-use Rattle.rules.specs.Document01.Plan.{Plls, thirdOf, pllsOf, hsiReady, systemFrom, Buses, busesOf, Mcos, mcosOf, planWith, chosenPlan, answered, answerTo}
+use Rattle.rules.specs.Document01.Request.{pllAt, within, fromHse1, fromHse2, pll1Asked, sourceOf, systemOf, needsPll1, like, withP, askedOf, configured}
+use Rattle.rules.specs.Document01.OnePll.{pllOf, pClock, qClock, pllFrom, wanted}
+use Rattle.rules.specs.Document01.Buses.{hpreFor, ppreFor, ahbOf, apbOf}
+use Rattle.rules.specs.Document01.Mco.{mco1Input, mco2Input, mcoOf}
+use Rattle.rules.specs.Document01.Plan.{pllsOf, hsiReady, systemFrom, busesOf, mcosOf, planWith, chosenPlan, answered, answerTo, plannedAt, byNumber}
 use Rattle.rules.specs.Demands.Legal.{LegalPll}
 use Rattle.rules.specs.Demands.Rows.{Row, _when_, firstThat, AsRows}
 use Rattle.rules.specs.Demands.Quantities.{any, isZero, above, unlike, system, input1, input2, ratioAbove15}
-use Rattle.rules.specs.Demands.Refused.{requestRows, hsiRows, busRows, mcoRows, pllRowsAt, rowsOf}
+use Rattle.rules.specs.Demands.Refused.{requestRows, hsiRows, busRows, mcoRows, pllRowsAt, rowsOf, pllRows}
 use Rattle.rules.proofs.Document01.Refusals.{numbers-differ}
 use Rattle.rules.proofs.Document01.Results.{Holds, not-ok}
 use Rattle.rules.proofs.Document01.Span.{pos-of}
@@ -42,6 +42,12 @@ use Rattle.rules.proofs.Legal.Plan.{LegalPlls, plls-legal}
 use Rattle.rules.proofs.Refused.Above0.{p-some, q-some, ratio-some}
 use Rattle.rules.proofs.Refused.Says.{told, saidBy, Says, says-given, none-holds, says-then, says-next, says-ok, says-test, says-tested}
 use Rattle.rules.proofs.Refused.OnePll.{le-turned, zero-turned, twice, pllFor, says-pll, p-hertz, says-planned-p, says-planned-q}
+use Rattle.types.specs.declared.Bus.{Bus}
+use Rattle.types.specs.declared.Mco.{Mco}
+use Rattle.types.specs.declared.Buses.{Buses}
+use Rattle.types.specs.declared.Mcos.{Mcos}
+use Rattle.types.specs.declared.PllPlan.{PllPlan}
+use Rattle.types.specs.declared.Pll.{Pll}
 
 -- ---- 3 to 6
 within-turned : (h : Hertz) → within h ≡ not (above 250_000_000 h)
@@ -70,36 +76,39 @@ like-turned : (s : ℕ) (h : Hertz) → like h s ≡ not (unlike s h)
 like-turned s Unset = refl
 like-turned s (Hz h) = twice (eqb h s)
 
-says-system : (t : Bool) (s : ℕ) (a : PllRequest) → Says (forSystemClock t s a) (cond t (withP a s) a) ((5 when (t && unlike s (a .p))) ∷ [])
-unfolding forSystemClock
-says-system false s a = record { same = refl }
-says-system true s a = says-tested (like (a .p) s) Pll1PUnlikeSystem (unlike s (a .p)) (like-turned s (a .p)) (says-ok (withP a s))
+fits-turned : (t : Bool) (s : ℕ) (h : Hertz) → not t || like h s ≡ not (t && unlike s h)
+fits-turned false s h = refl
+fits-turned true s h = like-turned s h
 
--- ---- the PLLs
-abbrev pllsFor : Request → ChipState → Plls
-pllsFor q c = record {
-  pll1 = pllFor (c .odd1) (sourceOf q) (askedOf q 0);
-  pll2 = pllFor (c .odd2) (sourceOf q) (askedOf q 1);
-  pll3 = cond (c .three) (pllFor (c .odd3) (sourceOf q) (askedOf q 2)) Idle;
-}
-
-says-third : (q : Request) (c : ChipState) → Says (thirdOf q c) (pllsFor q c .pll3) (cond (c .three) (pllRowsAt (c .odd3) q 2) [])
-says-third q c = go (c .three)
-  where
-    go : (t : Bool) → Says (cond t (pllOf (c .odd3) (sourceOf q) (pllAt q 2)) (ok Idle)) (cond t (pllFor (c .odd3) (sourceOf q) (askedOf q 2)) Idle) (cond t (pllRowsAt (c .odd3) q 2) [])
-    go true = says-pll (c .odd3) (sourceOf q) (pllAt q 2)
-    go false = says-ok Idle
-
-says-plls : (q : Request) (c : ChipState) → Says (pllsOf q c) (pllsFor q c) (requestRows q ++ (pllRowsAt (c .odd1) q 0 ++ (pllRowsAt (c .odd2) q 1 ++ (cond (c .three) (pllRowsAt (c .odd3) q 2) [] ++ []))))
-unfolding pllsOf
-says-plls q c =
+says-configured : (q : Request) → Says (configured q) tt (requestRows q)
+unfolding configured
+says-configured q =
     says-tested _ AboveLimit _ (limits-turned (q .system) (q .ahb) (q .apb1) (q .apb2) (q .apb3))
     (says-tested _ McoHseUnstated _ (stated-turned (isSet (q .hse)) (fromHse1 (q .mco1source) || fromHse2 (q .mco2source)))
-    (says-then _ (says-system (needsPll1 q) (systemOf q) (pll1Asked q))
-    (says-tested _ SourceZero (eqb (sourceOf q) 0) refl
-    (says-then _ (says-pll (c .odd1) (sourceOf q) (askedOf q 0))
-    (says-then _ (says-pll (c .odd2) (sourceOf q) (askedOf q 1))
-    (says-then _ (says-third q c) (says-ok (pllsFor q c))))))))
+    (says-tested _ Pll1PUnlikeSystem _ (fits-turned (needsPll1 q) (systemOf q) (pll1Asked q .p))
+    (says-test (not (eqb (sourceOf q) 0)) SourceZero (eqb (sourceOf q) 0) refl)))
+
+-- ---- the PLLs
+abbrev pllOn : Request → ChipState → (k : ℕ) → Pll
+pllOn q c k = cond (hasPll c k) (pllFor (oddAt c k) (sourceOf q) (askedOf q k)) Idle
+
+abbrev pllsFor : Request → ChipState → List PllPlan
+pllsFor q c = byNumber (pllOn q c 0) (pllOn q c 1) (pllOn q c 2)
+
+says-planned-at : (q : Request) (c : ChipState) (k : ℕ) → Says (plannedAt q c k) (pllOn q c k) (pllRowsAt q c k)
+says-planned-at q c k = go (hasPll c k)
+  where
+    go : (t : Bool) → Says (cond t (pllOf (oddAt c k) (sourceOf q) (askedOf q k)) (ok Idle)) (cond t (pllFor (oddAt c k) (sourceOf q) (askedOf q k)) Idle) (cond t (cond (wanted (askedOf q k)) (pllRows (oddAt c k) (sourceOf q) (askedOf q k)) []) [])
+    go true = says-pll (oddAt c k) (sourceOf q) (askedOf q k)
+    go false = says-ok Idle
+
+says-plls : (q : Request) (c : ChipState) → Says (pllsOf q c) (pllsFor q c) (requestRows q ++ (pllRowsAt q c 0 ++ (pllRowsAt q c 1 ++ (pllRowsAt q c 2 ++ []))))
+unfolding pllsOf
+says-plls q c =
+    says-next (says-configured q)
+    (says-then _ (says-planned-at q c 0)
+    (says-then _ (says-planned-at q c 1)
+    (says-then _ (says-planned-at q c 2) (says-ok (pllsFor q c)))))
 
 -- ---- 16 and 17
 says-hsi : (c : ChipState) → Says (hsiReady c) tt (hsiRows c)
@@ -107,7 +116,7 @@ says-hsi c = says-tested (c .hsion) HsiOff (not (c .hsion)) (twice (c .hsion)) (
 
 -- ---- 18 and 19
 system-is : (q : Request) (c : ChipState) → systemFrom q (pllsFor q c) ≡ system q c
-system-is q c = rw (p-hertz (c .odd1) (sourceOf q) (askedOf q 0))
+system-is q c = rw (p-hertz (oddAt c 0) (sourceOf q) (askedOf q 0))
 
 abbrev apbFor : (clock : ℕ) → Hertz → Bus
 apbFor clock h = record { pre = ppreFor clock h; clock = clock / ppreFor clock h }
@@ -136,20 +145,20 @@ says-buses q s =
     (says-then _ (says-apb (s / hpreFor s (q .ahb)) (q .apb3)) (says-ok (busesFor q s)))))
 
 -- ---- 20 to 23
-says-input1 : (s : Mco1Source) (q : Request) (c : ChipState) → Says (mco1Input s (q .hse) (qClock (pllsFor q c .pll1))) (input1 q c s .clock) ((20 when input1 q c s .lse) ∷ (21 when input1 q c s .unplanned) ∷ [])
+says-input1 : (s : Mco1Source) (q : Request) (c : ChipState) → Says (mco1Input s (q .hse) (qClock (pllFrom (pllsFor q c) 0))) (input1 q c s .clock) ((20 when input1 q c s .lse) ∷ (21 when input1 q c s .unplanned) ∷ [])
 unfolding mco1Input
 says-input1 Mco1Source.Hsi q c = record { same = refl }
 says-input1 Mco1Source.Lse q c = record { same = refl }
 says-input1 Mco1Source.Hse q c = record { same = refl }
-says-input1 Mco1Source.Pll1Q q c = record { same = says-planned-q (c .odd1) (sourceOf q) (askedOf q 0) .same }
+says-input1 Mco1Source.Pll1Q q c = record { same = says-planned-q (oddAt c 0) (sourceOf q) (askedOf q 0) .same }
 says-input1 Mco1Source.Hsi48 q c = record { same = refl }
 
-says-input2 : (s : Mco2Source) (q : Request) (c : ChipState) → Says (mco2Input s (system q c) (q .hse) (pClock (pllsFor q c .pll1)) (pClock (pllsFor q c .pll2))) (input2 q c s .clock) ((21 when input2 q c s .unplanned) ∷ [])
+says-input2 : (s : Mco2Source) (q : Request) (c : ChipState) → Says (mco2Input s (system q c) (q .hse) (pClock (pllFrom (pllsFor q c) 0)) (pClock (pllFrom (pllsFor q c) 1))) (input2 q c s .clock) ((21 when input2 q c s .unplanned) ∷ [])
 unfolding mco2Input
 says-input2 Mco2Source.Sysclk q c = record { same = refl }
-says-input2 Mco2Source.Pll2P q c = says-planned-p (c .odd2) (sourceOf q) (askedOf q 1)
+says-input2 Mco2Source.Pll2P q c = says-planned-p (oddAt c 1) (sourceOf q) (askedOf q 1)
 says-input2 Mco2Source.Hse q c = record { same = refl }
-says-input2 Mco2Source.Pll1P q c = says-planned-p (c .odd1) (sourceOf q) (askedOf q 0)
+says-input2 Mco2Source.Pll1P q c = says-planned-p (oddAt c 0) (sourceOf q) (askedOf q 0)
 says-input2 Mco2Source.Csi q c = record { same = refl }
 says-input2 Mco2Source.Lsi q c = record { same = refl }
 
@@ -175,25 +184,25 @@ mcosFor q c = record { mco1 = mcoFor (input1 q c (q .mco1source) .clock) (q .mco
 record Some (q : Request) (c : ChipState) : Type 0 where
   hse1 : fromHse1 (q .mco1source) ≡ true → 1 ≤ hertzOr (q .hse) 0
   hse2 : fromHse2 (q .mco2source) ≡ true → 1 ≤ hertzOr (q .hse) 0
-  pll1 : LegalPll (c .odd1) (sourceOf q) (askedOf q 0) (pllsFor q c .pll1)
-  pll2 : LegalPll (c .odd2) (sourceOf q) (askedOf q 1) (pllsFor q c .pll2)
+  pll1 : LegalPll (oddAt c 0) (sourceOf q) (askedOf q 0) (pllFrom (pllsFor q c) 0)
+  pll2 : LegalPll (oddAt c 1) (sourceOf q) (askedOf q 1) (pllFrom (pllsFor q c) 1)
 
-some1 : (s : Mco1Source) (q : Request) (c : ChipState) → (fromHse1 s ≡ true → 1 ≤ hertzOr (q .hse) 0) → LegalPll (c .odd1) (sourceOf q) (askedOf q 0) (pllsFor q c .pll1)
-    → mco1Input s (q .hse) (qClock (pllsFor q c .pll1)) ≡ ok (input1 q c s .clock) → 1 ≤ input1 q c s .clock
+some1 : (s : Mco1Source) (q : Request) (c : ChipState) → (fromHse1 s ≡ true → 1 ≤ hertzOr (q .hse) 0) → LegalPll (oddAt c 0) (sourceOf q) (askedOf q 0) (pllFrom (pllsFor q c) 0)
+    → mco1Input s (q .hse) (qClock (pllFrom (pllsFor q c) 0)) ≡ ok (input1 q c s .clock) → 1 ≤ input1 q c s .clock
 unfolding mco1Input
 some1 Mco1Source.Hsi q c h l e = lit≤ tt
 some1 Mco1Source.Lse q c h l e = not-ok e
 some1 Mco1Source.Hse q c h l e = h refl
-some1 Mco1Source.Pll1Q q c h l e = q-some (c .odd1) (sourceOf q) (askedOf q 0) (pllsFor q c .pll1) l _ e
+some1 Mco1Source.Pll1Q q c h l e = q-some (oddAt c 0) (sourceOf q) (askedOf q 0) (pllFrom (pllsFor q c) 0) l _ e
 some1 Mco1Source.Hsi48 q c h l e = lit≤ tt
 
-some2 : (s : Mco2Source) (q : Request) (c : ChipState) → (fromHse2 s ≡ true → 1 ≤ hertzOr (q .hse) 0) → LegalPll (c .odd1) (sourceOf q) (askedOf q 0) (pllsFor q c .pll1) → LegalPll (c .odd2) (sourceOf q) (askedOf q 1) (pllsFor q c .pll2)
-    → 1 ≤ system q c → mco2Input s (system q c) (q .hse) (pClock (pllsFor q c .pll1)) (pClock (pllsFor q c .pll2)) ≡ ok (input2 q c s .clock) → 1 ≤ input2 q c s .clock
+some2 : (s : Mco2Source) (q : Request) (c : ChipState) → (fromHse2 s ≡ true → 1 ≤ hertzOr (q .hse) 0) → LegalPll (oddAt c 0) (sourceOf q) (askedOf q 0) (pllFrom (pllsFor q c) 0) → LegalPll (oddAt c 1) (sourceOf q) (askedOf q 1) (pllFrom (pllsFor q c) 1)
+    → 1 ≤ system q c → mco2Input s (system q c) (q .hse) (pClock (pllFrom (pllsFor q c) 0)) (pClock (pllFrom (pllsFor q c) 1)) ≡ ok (input2 q c s .clock) → 1 ≤ input2 q c s .clock
 unfolding mco2Input
 some2 Mco2Source.Sysclk q c h l k y e = y
-some2 Mco2Source.Pll2P q c h l k y e = p-some (c .odd2) (sourceOf q) (askedOf q 1) (pllsFor q c .pll2) k _ e
+some2 Mco2Source.Pll2P q c h l k y e = p-some (oddAt c 1) (sourceOf q) (askedOf q 1) (pllFrom (pllsFor q c) 1) k _ e
 some2 Mco2Source.Hse q c h l k y e = h refl
-some2 Mco2Source.Pll1P q c h l k y e = p-some (c .odd1) (sourceOf q) (askedOf q 0) (pllsFor q c .pll1) l _ e
+some2 Mco2Source.Pll1P q c h l k y e = p-some (oddAt c 0) (sourceOf q) (askedOf q 0) (pllFrom (pllsFor q c) 0) l _ e
 some2 Mco2Source.Csi q c h l k y e = lit≤ tt
 some2 Mco2Source.Lsi q c h l k y e = lit≤ tt
 
@@ -251,7 +260,7 @@ regroup a b c d r = simp (append-assoc, append-nil)
 pub says-plan : (q : Request) (c : ChipState) → Says (chosenPlan q c) (planFor q c) (rowsOf q c)
 unfolding chosenPlan rowsOf
 says-plan q c =
-    rw (← regroup (requestRows q) (pllRowsAt (c .odd1) q 0) (pllRowsAt (c .odd2) q 1) (cond (c .three) (pllRowsAt (c .odd3) q 2) []) (hsiRows c ++ (busRows q c ++ mcoRows q c)))
+    rw (← regroup (requestRows q) (pllRowsAt q c 0) (pllRowsAt q c 1) (pllRowsAt q c 2) (hsiRows c ++ (busRows q c ++ mcoRows q c)))
     (says-given _ (says-plls q c) (λ e. says-after q c (some-of q c e) (systemFrom q (pllsFor q c)) (system-is q c)))
 
 -- ---- the answer

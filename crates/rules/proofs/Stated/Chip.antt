@@ -6,6 +6,7 @@ use Prim.Native.Nat.{ℕ}
 use native.Mathlib.Omega.{arith}
 use lib.Dec.{eqb, ltb}
 use borrow.Author.Tests.{eqb-true}
+use lib.ListN.{getD}
 use Rattle.laws.proofs.Tests.{by-test}
 use Rattle.types.specs.declared.Hertz.the-variants.{Unset, Hz}
 use Rattle.types.specs.declared.Strategy.the-variants.{Integer}
@@ -17,7 +18,7 @@ use Rattle.types.specs.declared.ChipState.{ChipState}
 use Rattle.types.specs.declared.Refusal.the-variants.{OutsideCodes}
 use Rattle.rules.specs.Document01.Refusals.{codeOf}
 use Rattle.rules.specs.Document01.Result.{Result, refused, ok, _>>_, require}
-use Rattle.rules.specs.Document01.Chip.{isBit, isHsidiv, hsidivOf, divisorOf, scaleOf, chipOf}
+use Rattle.rules.specs.Document01.Chip.{isBit, isHsidiv, hsidivOf, divisorOf, scaleOf, chipOf, permission}
 use Rattle.rules.specs.Document01.Bytes.{requestBytes}
 use Rattle.rules.specs.Document01.Plan.{planOf}
 use Rattle.rules.proofs.Computes.{byRules}
@@ -51,9 +52,7 @@ code-lists = refl
 -- ---- what they say: permissions by PLL number, and the rest as it stands
 pub record Says (c : Chip) (s : ChipState) : Type 0 where
   pub three : s .three ≡ eqb (c .plls) 3
-  pub odd1 : s .odd1 ≡ eqb (c .odd1) 1
-  pub odd2 : s .odd2 ≡ eqb (c .odd2) 1
-  pub odd3 : s .odd3 ≡ eqb (c .odd3) 1
+  pub odd : s .odd ≡ eqb (getD (c .odd) 0 0) 1 ∷ eqb (getD (c .odd) 1 0) 1 ∷ eqb (getD (c .odd) 2 0) 1 ∷ []
   pub hsion : s .hsion ≡ eqb (c .hsion) 1
   pub hsidiv : divisorOf (s .hsidiv) ≡ c .hsidiv
 
@@ -76,12 +75,12 @@ pub said : (c : Chip) (s : ChipState) → chipOf c ≡ ok s → Says c s
 unfolding chipOf
 said c s e =
     let plls = passed (eqb (c .plls) 2 || eqb (c .plls) 3) _ e in
-    let odds = passed (isBit (c .odd1) && (isBit (c .odd2) && isBit (c .odd3))) _ (plls .1) in
+    let odds = passed (isBit (permission c 0) && (isBit (permission c 1) && isBit (permission c 2))) _ (plls .1) in
     let scale = passed (ltb (c .scale) 4) _ (odds .1) in
     let hsion = passed (isBit (c .hsion)) _ (scale .1) in
     let hsidiv = passed (isHsidiv (c .hsidiv)) _ (hsion .1) in
     let k = one-value (hsidiv .1) in
-    record { three = ap (λ (x : ChipState). x .three) k; odd1 = ap (λ (x : ChipState). x .odd1) k; odd2 = ap (λ (x : ChipState). x .odd2) k; odd3 = ap (λ (x : ChipState). x .odd3) k; hsion = ap (λ (x : ChipState). x .hsion) k; hsidiv = ap (λ (x : ChipState). divisorOf (x .hsidiv)) k ∙ divisor-back (c .hsidiv) (hsidiv .0) }
+    record { three = ap (λ (x : ChipState). x .three) k; odd = ap (λ (x : ChipState). x .odd) k; hsion = ap (λ (x : ChipState). x .hsion) k; hsidiv = ap (λ (x : ChipState). divisorOf (x .hsidiv)) k ∙ divisor-back (c .hsidiv) (hsidiv .0) }
 
 -- the scales by number
 pub scales : map scaleOf (0 ∷ 1 ∷ 2 ∷ 3 ∷ []) ≡ Scale0 ∷ Scale1 ∷ Scale2 ∷ Scale3 ∷ []

@@ -10,7 +10,7 @@ use Rattle.types.specs.declared.Hertz.the-variants.{Unset, Hz}
 use Rattle.types.specs.declared.Plan.{Plan}
 use Rattle.rules.specs.Document01.Plan.{answerTo, blankPlan}
 use Rattle.rules.specs.Document01.Entries.{bit}
-use Rattle.rules.specs.Document01.Words.{hertzWords, reportWords}
+use Rattle.rules.specs.Words.{hertzWords, reportWords}
 use Rattle.rules.specs.Rust.CoreClocks.{CoreClocks}
 use Rattle.rules.specs.Manual.Path.{pll1, pll2, pll3}
 use Rattle.rules.specs.Manual.Tree.{P, Q, R, sys, hclk, pclk1, pclk2, pclk3, timx, timy, per, hsi, csi, hsi48, lsi, hse, mco1, mco2, output}
@@ -64,8 +64,8 @@ unfolding blankPlan
 blank-report = refl
 
 pub blank-fields :
-    blankPlan .src ∷ blankPlan .sw ∷ blankPlan .hpre ∷ blankPlan .ckpersel ∷ blankPlan .mco1sel ∷ blankPlan .mco1pre ∷ blankPlan .mco2sel
-    ∷ blankPlan .mco2pre ∷ blankPlan .latency ∷ blankPlan .delay ∷ bit (blankPlan .three) ∷ bit (blankPlan .bypass) ∷ []
+    blankPlan .selectors .src ∷ blankPlan .selectors .sw ∷ blankPlan .buses .ahb .pre ∷ blankPlan .selectors .ckpersel ∷ blankPlan .selectors .mco1sel ∷ blankPlan .mcos .mco1 .pre ∷ blankPlan .selectors .mco2sel
+    ∷ blankPlan .mcos .mco2 .pre ∷ blankPlan .waits .latency ∷ blankPlan .waits .delay ∷ bit (blankPlan .three) ∷ bit (blankPlan .bypass) ∷ []
     ≡ replicate 12 0
 unfolding blankPlan
 blank-fields = refl

@@ -10,11 +10,12 @@ use Rattle.types.specs.declared.Mco2Source.{Mco2Source}
 use Rattle.rules.specs.Document01.Bytes.{mco1Sources, mco2Sources}
 use Rattle.rules.specs.Document01.Mco.{mco1Code, mco2Code}
 use Rattle.rules.specs.Document01.Hertz.{ratioOf}
-use Rattle.rules.specs.Document01.Buses.{Selected, peripheralOf, hpreOf, ppreOf, timerOf}
+use Rattle.rules.specs.Document01.Buses.{peripheralOf, hpreOf, ppreOf, timerOf}
 use Rattle.rules.specs.Document01.Walk.{vosCode}
 use Rattle.types.specs.declared.Waits.{Waits}
 use Rattle.rules.specs.Document01.Flash.{atColumn, flashOf}
 use Rattle.rules.proofs.Stated.Bank.{counted}
+use Rattle.types.specs.declared.Selected.{Selected}
 
 -- ---- the codes of the MCO sources, as they are read and as they are written
 pub mco1-codes : mco1Sources ≡ Mco1Source.Hsi ∷ Mco1Source.Lse ∷ Mco1Source.Hse ∷ Mco1Source.Pll1Q ∷ Mco1Source.Hsi48 ∷ []

@@ -1,6 +1,7 @@
 -- Entries and what a walk shows, as the nine words of docs/CODES.md, in numbers: one of each kind, and no two with the same words.
 use mathlib.Core.Path.{_≡_, refl, sym, ap, _∙_}
 use mathlib.Core.List.{List, [], _∷_, map}
+use mathlib.Core.Option.{Option, none, some}
 use Prim.Native.Nat.{ℕ, zero, suc, _-_, _<_}
 use native.Mathlib.Numerals.{add-one}
 use native.Mathlib.Omega.{arith}
@@ -9,26 +10,18 @@ use borrow.Author.Tests.{lt-ltb}
 use Rattle.types.specs.declared.Entry.{Entry}
 use Rattle.types.specs.declared.Entry.the-variants.{Set, Set2, Set3, Set4, Wait, Wait2, Check, Read}
 use Rattle.types.specs.declared.Refusal.{Refusal}
-use Rattle.types.specs.declared.Refusal.the-variants.{OutsideCodes, BankLength, AboveLimit, McoHseUnstated, Pll1PUnlikeSystem, SourceZero, OutputZero, OutputsTooFarApart, OutputTooHigh, TargetOutside, NoM, NOutside, FracnOutside, PDividerAbove128, PDividerOdd, HsiOff, HsidivNot2, BusZero, AhbZero, Mco1Lse, McoNoOutput, McoZero, McoRatio, CsiDown}
+use Rattle.types.specs.declared.Refusal.the-variants.{OutsideCodes, NOutside, CsiDown}
 use Rattle.types.specs.declared.Shown.{Shown}
 use Rattle.types.specs.declared.Shown.the-variants.{Next, Finished, Stopped}
 use Rattle.types.specs.declared.Answer.the-variants.{Accepted, Refused}
-use Rattle.rules.specs.Document01.Refusals.{numberOf, codeOf}
+use Rattle.rules.specs.Document01.Refusals.{refusalOf, codeOf}
 use Rattle.rules.specs.Document01.Walk.{before, steppedOf}
-use Rattle.rules.specs.Document01.Words.{fieldWord, entryWords, shownWords, storedAt, ran, shownCount, listed}
+use Rattle.rules.specs.Words.{fieldWord, entryWords, shownWords, storedAt, ran, shownCount, listed}
+use Rattle.rules.proofs.Document01.Listed.{each-found}
 use Rattle.rules.proofs.Stated.Bank.{counted}
 
--- ---- the refusals by number
-abbrev pub refusals : List Refusal
-refusals =
-    OutsideCodes ∷ BankLength ∷ AboveLimit ∷ McoHseUnstated ∷ Pll1PUnlikeSystem ∷ SourceZero ∷ OutputZero ∷ OutputsTooFarApart ∷ OutputTooHigh
-    ∷ TargetOutside ∷ NoM ∷ NOutside ∷ FracnOutside ∷ PDividerAbove128 ∷ PDividerOdd ∷ HsiOff ∷ HsidivNot2 ∷ BusZero ∷ AhbZero ∷ Mco1Lse
-    ∷ McoNoOutput ∷ McoZero ∷ McoRatio ∷ CsiDown ∷ []
-
-pub numbered : map numberOf refusals ≡ counted 24 1
-numbered = refl
-
-pub coded : codeOf Accepted ∷ codeOf (Refused CsiDown) ∷ [] ≡ 0 ∷ 24 ∷ []
+-- ---- an answer as one number; of the refusals, those that neither the planner's call nor the bank call answers
+pub coded : map codeOf (Accepted ∷ Refused NOutside ∷ Refused CsiDown ∷ []) ≡ 0 ∷ 12 ∷ 24 ∷ []
 coded = refl
 
 -- ---- the kind, then up to four times the field, from 1, and its value
@@ -78,13 +71,17 @@ abbrev waitBack : (f v g w : ℕ) → Entry
 waitBack f v zero w = Wait (f - 1) v
 waitBack f v (suc g) w = Wait2 (f - 1) v g w
 
+abbrev stoppedBack : Option Refusal → Shown
+stoppedBack none = Finished
+stoppedBack (some n) = Stopped n
+
 abbrev kindBack : (kind f v g w h x k y : ℕ) → Shown
 kindBack zero f v g w h x k y = Finished
 kindBack (suc zero) f v g w h x k y = Next (setBack f v g w h x k y)
 kindBack (suc (suc zero)) f v g w h x k y = Next (waitBack f v g w)
 kindBack (suc (suc (suc zero))) f v g w h x k y = Next (Check (f - 1) v)
 kindBack (suc (suc (suc (suc zero)))) f v g w h x k y = Next (Read (f - 1))
-kindBack (suc (suc (suc (suc (suc kind))))) f v g w h x k y = Stopped (getD refusals (f - 1) OutsideCodes)
+kindBack (suc (suc (suc (suc (suc kind))))) f v g w h x k y = stoppedBack (refusalOf f)
 
 abbrev back : List ℕ → Shown
 back w = kindBack (getD w 0 0) (getD w 1 0) (getD w 2 0) (getD w 3 0) (getD w 4 0) (getD w 5 0) (getD w 6 0) (getD w 7 0) (getD w 8 0)
@@ -121,39 +118,10 @@ read-entry (Wait2 f v g w) i = rw (word f (i .0), word g (i .1), less f)
 read-entry (Check f v) i = rw (word f i, less f)
 read-entry (Read f) i = rw (word f i, less f)
 
-read-refusal : (n : Refusal) → getD refusals (numberOf n - 1) OutsideCodes ≡ n
-read-refusal OutsideCodes = refl
-read-refusal BankLength = refl
-read-refusal AboveLimit = refl
-read-refusal McoHseUnstated = refl
-read-refusal Pll1PUnlikeSystem = refl
-read-refusal SourceZero = refl
-read-refusal OutputZero = refl
-read-refusal OutputsTooFarApart = refl
-read-refusal OutputTooHigh = refl
-read-refusal TargetOutside = refl
-read-refusal NoM = refl
-read-refusal NOutside = refl
-read-refusal FracnOutside = refl
-read-refusal PDividerAbove128 = refl
-read-refusal PDividerOdd = refl
-read-refusal HsiOff = refl
-read-refusal HsidivNot2 = refl
-read-refusal BusZero = refl
-read-refusal AhbZero = refl
-read-refusal Mco1Lse = refl
-read-refusal McoNoOutput = refl
-read-refusal McoZero = refl
-read-refusal McoRatio = refl
-read-refusal CsiDown = refl
-
 read-shown : (s : Shown) → ShownInBank s → back (shownWords s) ≡ s
 read-shown (Next e) i = read-entry e i
 read-shown Finished i = refl
-read-shown (Stopped n) i = ap Stopped (read-refusal n)
+read-shown (Stopped n) i = ap stoppedBack (each-found n)
 
 pub told-apart : (s t : Shown) → ShownInBank s → ShownInBank t → shownWords s ≡ shownWords t → s ≡ t
 told-apart s t i j e = sym (read-shown s i) ∙ ap back e ∙ read-shown t j
-
-pub numbers-apart : (m n : Refusal) → numberOf m ≡ numberOf n → m ≡ n
-numbers-apart m n e = sym (read-refusal m) ∙ ap (λ (k : ℕ). getD refusals (k - 1) OutsideCodes) e ∙ read-refusal n

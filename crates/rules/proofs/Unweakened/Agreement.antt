@@ -17,18 +17,19 @@ use Rattle.types.specs.declared.Planned.{Planned}
 use Rattle.rules.specs.Document01.Refusals.{numberOf}
 use Rattle.rules.specs.Document01.Request.{askedOf}
 use Rattle.rules.specs.Document01.Entries.{entriesOf}
-use Rattle.rules.specs.Document01.Words.{entryWords}
+use Rattle.rules.specs.Words.{entryWords}
 use Rattle.rules.specs.Rust.Run.{Outcome, panics, ends}
 use Rattle.rules.specs.Rust.Rcc.{frozen}
 use Rattle.rules.specs.Rust.CoreClocks.{CoreClocks}
 use Rattle.rules.specs.Manual.PllFields.{allowsP}
 use Rattle.rules.specs.Demands.Report.{reported}
-use Rattle.rules.specs.Demands.Agreement.{oddP, Refused14, Refused15, dividerFor, Forbidden, Departure, AllowsEachP, Agreement}
+use Rattle.rules.specs.Demands.Agreement.{Refused14, Refused15, dividerFor, Forbidden, Departure, AllowsEachP, Agreement, pllCount}
 use Rattle.rules.proofs.Computes.{byRules, byBank}
 use Rattle.laws.proofs.Tests.{never}
 use Rattle.rules.proofs.Samples.{state, state3, a, planA}
 use Rattle.rules.proofs.Agreement.Whole.{agreement}
 use Rattle.rules.proofs.Unweakened.Wrong.{slowerA, planned, refusing}
+use Rattle.rules.specs.Document01.Chip.{oddAt}
 
 same-entries : {es fs : List Entry} {j k : CoreClocks} → ends es j ≡ ends fs k → es ≡ fs
 same-entries e = cc
@@ -127,13 +128,13 @@ pub refused-15 : Agreement a third-even (refusing PDividerOdd) (frozen a third-e
 refused-15 h = without-cause third-even PDividerOdd _ (inr refl) h
 
 -- 14 and 15 of any request where every PLL may divide by an odd number
-each-odd : (k : ℕ) → oddP (state true) k ≡ true
-each-odd zero = refl
-each-odd (suc zero) = refl
-each-odd (suc (suc k)) = refl
+each-odd : (k : ℕ) → k < pllCount (state true) → oddAt (state true) k ≡ true
+each-odd zero l = refl
+each-odd (suc zero) l = refl
+each-odd (suc (suc k)) l = absurd (omega arith)
 
 pub none-forbidden : (q : Request) (n : Refusal) (o : Outcome CoreClocks) → (numberOf n ≡ 14) ⊎ (numberOf n ≡ 15) → Agreement q (state true) (refusing n) o → ⊥
-none-forbidden q n o w h = let d = h .caused n refl w in never (sym (each-odd (d .pll)) ∙ d .at .even)
+none-forbidden q n o w h = let d = h .caused n refl w in never (sym (each-odd (d .pll) (d .there)) ∙ d .at .even)
 
 -- ---- departures
 no-entry : (g : Entry) (before after : List Entry) → [] ≡ before ++ (g ∷ after) → ⊥
@@ -146,7 +147,7 @@ only-entry e g (x ∷ before) after h = let t : [] ≡ before ++ (g ∷ after) =
 
 -- the divider of the PLL that a departure names
 abbrev dividerIn : {q : Request} {c : ChipState} {n : Refusal} {es : List Entry} → Departure q c n es → ℕ
-dividerIn {q} {c} d = dividerFor (oddP c (d .pll)) (askedOf q (d .pll))
+dividerIn {q} {c} d = dividerFor (oddAt c (d .pll)) (askedOf q (d .pll))
 
 -- the one value written is the divider less 1, and its field is that PLL's P
 value-of : {q : Request} {c : ChipState} {n : Refusal} {f v : ℕ} → (d : Departure q c n (Set f v ∷ [])) → v ≡ (dividerIn d - 1) % 256
@@ -163,13 +164,13 @@ nothing-written q c n k h = let d = h .departed n [] k refl refl in no-entry _ (
 pub allowed-5 : (q : Request) (k : CoreClocks) → Agreement q (state true) (refusing PDividerOdd) (ends (Set 6 4 ∷ []) k) → ⊥
 allowed-5 q k h =
     let d = h .departed PDividerOdd _ k refl refl in
-    let e : allowsP true 4 ≡ false = rw (← value-of d, each-odd (d .pll)) at (d .at .forbidden) in
+    let e : allowsP true 4 ≡ false = rw (← value-of d, each-odd (d .pll) (d .there)) at (d .at .forbidden) in
     never e
 
 pub allowed-1 : (q : Request) (k : CoreClocks) → Agreement q (state true) (refusing PDividerAbove128) (ends (Set 6 0 ∷ []) k) → ⊥
 allowed-1 q k h =
     let d = h .departed PDividerAbove128 _ k refl refl in
-    let e : allowsP true 0 ≡ false = rw (← value-of d, each-odd (d .pll)) at (d .at .forbidden) in
+    let e : allowsP true 0 ≡ false = rw (← value-of d, each-odd (d .pll) (d .there)) at (d .at .forbidden) in
     never e
 
 -- another divider than the refusal's: 15 of an even one, 4; 14 of one below 128, 101

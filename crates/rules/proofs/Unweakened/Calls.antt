@@ -55,7 +55,7 @@ number-2 h = never (sym (h .refusal BankLength refl))
 -- a plan beside a refusal
 pub not-blank : Answered planNumbers (record { answer = Refused AboveLimit; plan = planA .plan }) → ⊥
 unfolding byRules
-not-blank h = let z : _≡_ {A = ℕ} 250_000_000 0 = ap (λ (p : Plan). p .sys) (h .blank AboveLimit refl) in omega arith
+not-blank h = let z : _≡_ {A = ℕ} 250_000_000 0 = ap (λ (p : Plan). p .clocks .sys) (h .blank AboveLimit refl) in omega arith
 
 -- fewer than 21 entries, or more than 69. No plan has them, so the claim itself is taken at its word
 pub from-21 : (ns : List ℕ) (x : Planned) → Answered ns x → x .answer ≡ Accepted → 21 ≤ length (entriesOf x)

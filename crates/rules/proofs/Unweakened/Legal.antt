@@ -1,6 +1,7 @@
 -- Demand 2 rules these out: settings and wait states that the manuals or IEEE 754 do not allow, wrong in one place each where that can be.
 use mathlib.Core.Path.{_≡_, sym, ap}
 use mathlib.Core.Bool.{true, false}
+use mathlib.Core.List.{[], _∷_}
 use Prim.Native.Nat.{ℕ, _+_, _*_, _≤_, _<_}
 use native.Mathlib.Omega.{arith}
 use Rattle.types.specs.declared.Hertz.the-variants.{Unset, Hz}
@@ -266,7 +267,7 @@ delayIn nothing = 9
 delayIn (waits l d) = d
 
 abbrev at : Scale → ChipState
-at s = record { three = false; odd1 = true; odd2 = true; odd3 = true; scale = s; hsion = true; hsidiv = Hsidiv.Div2 }
+at s = record { three = false; odd = true ∷ true ∷ true ∷ []; scale = s; hsion = true; hsidiv = Hsidiv.Div2 }
 
 abbrev fromHse : (h : ℕ) → Scale → (latency delay : ℕ) → Plan
 fromHse h s latency delay = changed (answerTo (onHse h none) (at s) .plan) h Idle Idle Idle latency delay

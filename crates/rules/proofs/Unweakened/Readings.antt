@@ -34,7 +34,7 @@ module _ (q : Request) (p : Plan) (k : Clock) (r : ℕ) (report : hertzOf (repor
   by-its-pll j v s i = record { report = report; steady-path = rw (v, s, i) }
 
 -- the path that a clock is said to have, by the request and the plan
-pub via-buses : (q : Request) (p : Plan) → p .sw ≡ 0 → viaOf q p sys ∷ viaOf q p hclk ∷ viaOf q p pclk1 ∷ viaOf q p pclk2 ∷ viaOf q p pclk3 ∷ viaOf q p timx ∷ viaOf q p timy ∷ [] ≡ noPll ∷ noPll ∷ noPll ∷ noPll ∷ noPll ∷ noPll ∷ noPll ∷ []
+pub via-buses : (q : Request) (p : Plan) → p .selectors .sw ≡ 0 → viaOf q p sys ∷ viaOf q p hclk ∷ viaOf q p pclk1 ∷ viaOf q p pclk2 ∷ viaOf q p pclk3 ∷ viaOf q p timx ∷ viaOf q p timy ∷ [] ≡ noPll ∷ noPll ∷ noPll ∷ noPll ∷ noPll ∷ noPll ∷ noPll ∷ []
 via-buses q p e = rw e
 
 pub via-none : (q : Request) (p : Plan) → viaOf q p per ∷ viaOf q p hsi ∷ viaOf q p csi ∷ viaOf q p hsi48 ∷ viaOf q p lsi ∷ viaOf q p hse ∷ [] ≡ noPll ∷ noPll ∷ noPll ∷ noPll ∷ noPll ∷ noPll ∷ []

@@ -32,10 +32,11 @@ use Rattle.rules.specs.Manual.WaitStates.{rows, highest, waits, asks}
 use Rattle.rules.specs.Demands.Report.{reported}
 use Rattle.rules.specs.Document01.Walk.{Stand, steppedOf}
 use Rattle.rules.specs.Demands.Walks.{Pair, Satisfy, ShowsAll, shows}
-use Rattle.rules.specs.Demands.Agreement.{oddP, Cause, Departure, EndsAllowed, Agreement}
+use Rattle.rules.specs.Demands.Agreement.{Cause, Departure, EndsAllowed, Agreement}
 use Rattle.rules.specs.Demands.Legal.{LegalPll, LegalPlan}
 use Rattle.rules.specs.Demands.Readings.{viaOf, started, Covered, TwoReadings, fedBy}
 use Rattle.rules.specs.Demands.Calls.{Answered, Kept, AsFreeze, IsLegal, ReadTwice, BankReadTwice}
+use Rattle.rules.specs.Document01.Chip.{oddAt}
 
 -- ---- the calls
 module _ (bytes : List ℕ) (chip : Chip) (x : Planned) (a : Asked) (e : requestOf bytes chip ≡ ok a) where
@@ -83,23 +84,23 @@ module _ (q : Request) (c : ChipState) (x : Planned) (n : Refusal) (e : x .answe
   departed es k h = h .departed n es k e refl
 
 -- whether a PLL may divide P by an odd number, by its number
-pub odd-by-number : (odd1 odd2 odd3 : Bool) → map (oddP (record { three = true; odd1 = odd1; odd2 = odd2; odd3 = odd3; scale = Scale0; hsion = true; hsidiv = Hsidiv.Div2 })) (0 ∷ 1 ∷ 2 ∷ []) ≡ odd1 ∷ odd2 ∷ odd3 ∷ []
+pub odd-by-number : (odd1 odd2 odd3 : Bool) → map (oddAt (record { three = true; odd = odd1 ∷ odd2 ∷ odd3 ∷ []; scale = Scale0; hsion = true; hsidiv = Hsidiv.Div2 })) (0 ∷ 1 ∷ 2 ∷ []) ≡ odd1 ∷ odd2 ∷ odd3 ∷ []
 odd-by-number odd1 odd2 odd3 = refl
 
 module _ (q : Request) (c : ChipState) (p : Plan) (h : LegalPlan q c p) where
-  pub first-pll : LegalPll (c .odd1) (sourceOf q) (askedOf q 0) (pllIn p 0)
+  pub first-pll : LegalPll (oddAt c 0) (sourceOf q) (askedOf q 0) (pllIn p 0)
   first-pll = h .pll1
 
-  pub second-pll : LegalPll (c .odd2) (sourceOf q) (askedOf q 1) (pllIn p 1)
+  pub second-pll : LegalPll (oddAt c 1) (sourceOf q) (askedOf q 1) (pllIn p 1)
   second-pll = h .pll2
 
-  pub third-pll : c .three ≡ true → LegalPll (c .odd3) (sourceOf q) (askedOf q 2) (pllIn p 2)
+  pub third-pll : c .three ≡ true → LegalPll (oddAt c 2) (sourceOf q) (askedOf q 2) (pllIn p 2)
   third-pll e = rw e at (h .pll3)
 
   pub no-third-pll : c .three ≡ false → pllIn p 2 ≡ Idle
   no-third-pll e = rw e at (h .pll3)
 
-  pub wait-states : p .hclk ≤ highest (c .scale) * 1_000_000 → asks (rows (c .scale)) (p .hclk) ≡ waits (p .latency) (p .delay)
+  pub wait-states : p .buses .ahb .clock ≤ highest (c .scale) * 1_000_000 → asks (rows (c .scale)) (p .buses .ahb .clock) ≡ waits (p .waits .latency) (p .waits .delay)
   wait-states = h .flash
 
 -- ---- demand 3

@@ -12,10 +12,11 @@ use Rattle.types.specs.declared.Refusal.{Refusal}
 use Rattle.types.specs.declared.Plan.{Plan}
 use Rattle.types.specs.declared.Answer.the-variants.{Accepted, Refused}
 use Rattle.types.specs.declared.Planned.{Planned}
-use Rattle.rules.specs.Document01.Plan.{blankPlan}
+use Rattle.rules.specs.Document01.Plan.{blankPlan, byNumber}
 use Rattle.rules.specs.Document01.Entries.{pllIn}
 use Rattle.rules.proofs.Computes.{byRules}
 use Rattle.rules.proofs.Samples.{planA}
+use Rattle.types.specs.declared.Clocks.{Clocks}
 
 -- a PLL in Integer strategy: VCOSEL, target, M, reference, RGE, N, VCO, P, Q
 abbrev pub integer : (vcosel target m reference rge n vco : ℕ) → (p q : PllOutput) → PllSettings
@@ -41,42 +42,32 @@ pub is-a : pllIn (planA .plan) 0 ≡ Runs settingA
 unfolding byRules
 is-a = refl
 
+abbrev withSystem : Clocks → (sys : ℕ) → Clocks
+withSystem k sys = record {
+  sys = sys;
+  timx = k .timx;
+  timy = k .timy;
+  per = k .per;
+  hsi = k .hsi;
+  csi = k .csi;
+  hsi48 = k .hsi48;
+  lsi = k .lsi;
+  hse = k .hse;
+  lse = k .lse;
+  audio = k .audio;
+}
+
 -- a plan with another system clock, other PLLs and another latency and delay
 abbrev pub changed : Plan → (sys : ℕ) → (pll1 pll2 pll3 : Pll) → (latency delay : ℕ) → Plan
 changed p sys pll1 pll2 pll3 latency delay = record {
-  sys = sys;
-  hclk = p .hclk;
-  pclk1 = p .pclk1;
-  pclk2 = p .pclk2;
-  pclk3 = p .pclk3;
-  timx = p .timx;
-  timy = p .timy;
-  per = p .per;
-  hsi = p .hsi;
-  csi = p .csi;
-  hsi48 = p .hsi48;
-  lsi = p .lsi;
-  hse = p .hse;
-  lse = p .lse;
-  audio = p .audio;
-  mco1 = p .mco1;
-  mco2 = p .mco2;
-  three = p .three;
-  plls = record { pll = pll1 } ∷ record { pll = pll2 } ∷ record { pll = pll3 } ∷ [];
-  src = p .src;
-  sw = p .sw;
+  clocks = withSystem (p .clocks) sys;
+  buses = p .buses;
+  mcos = p .mcos;
+  waits = record { latency = latency; delay = delay };
+  selectors = p .selectors;
   bypass = p .bypass;
-  hpre = p .hpre;
-  ppre1 = p .ppre1;
-  ppre2 = p .ppre2;
-  ppre3 = p .ppre3;
-  ckpersel = p .ckpersel;
-  mco1sel = p .mco1sel;
-  mco1pre = p .mco1pre;
-  mco2sel = p .mco2sel;
-  mco2pre = p .mco2pre;
-  latency = latency;
-  delay = delay;
+  three = p .three;
+  plls = byNumber pll1 pll2 pll3;
 }
 
 -- of A: the system clock, PLL1, PLL2, PLL3, latency and delay; and with nothing changed

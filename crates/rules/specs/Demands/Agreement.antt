@@ -4,7 +4,7 @@ use mathlib.Core.Path.{_≡_}
 use mathlib.Core.Logic.{_⊎_, _↔_}
 use mathlib.Core.Bool.{Bool, true, false, cond}
 use mathlib.Core.List.{List, _∷_, _++_}
-use Prim.Native.Nat.{ℕ, zero, suc, _-_, _%_, _≤_, _<_}
+use Prim.Native.Nat.{ℕ, _-_, _%_, _≤_, _<_}
 use Rattle.types.specs.declared.PllRequest.{PllRequest}
 use Rattle.types.specs.declared.Request.{Request}
 use Rattle.types.specs.declared.ChipState.{ChipState}
@@ -13,23 +13,17 @@ use Rattle.types.specs.declared.Entry.the-variants.{Set}
 use Rattle.types.specs.declared.Refusal.{Refusal}
 use Rattle.types.specs.declared.Answer.the-variants.{Accepted, Refused}
 use Rattle.types.specs.declared.Planned.{Planned}
+use Rattle.rules.specs.Document01.Chip.{oddAt}
 use Rattle.rules.specs.Document01.Hertz.{isSet}
 use Rattle.rules.specs.Document01.Refusals.{numberOf}
 use Rattle.rules.specs.Document01.Request.{askedOf}
 use Rattle.rules.specs.Document01.OnePll.{targetFor, dividerP}
 use Rattle.rules.specs.Document01.Fields
 use Rattle.rules.specs.Document01.Fields.{ofPll}
-use Rattle.rules.specs.Document01.Entries.{entriesOf}
 use Rattle.rules.specs.Rust.Run.{Outcome, panics, ends, as-u8}
 use Rattle.rules.specs.Rust.CoreClocks.{CoreClocks}
 use Rattle.rules.specs.Manual.PllFields.{allowsP}
-use Rattle.rules.specs.Demands.Report.{reported}
-
--- whether PLL k, from 0, may divide P by an odd number
-abbrev pub oddP : ChipState → ℕ → Bool
-oddP c zero = c .odd1
-oddP c (suc zero) = c .odd2
-oddP c (suc (suc k)) = c .odd3
+use Rattle.rules.specs.Demands.Departures.{Freezes, asPlanned}
 
 -- how many PLLs a chip has
 abbrev pub pllCount : ChipState → ℕ
@@ -62,7 +56,7 @@ pub record Forbidden (odd : Bool) (a : PllRequest) (n : Refusal) : Type 0 where
 
 -- one of the chip's PLLs
 abbrev pub Cause : Request → ChipState → Refusal → Type 0
-Cause q c n = SomePll c (λ k. Forbidden (oddP c k) (askedOf q k) n)
+Cause q c n = SomePll c (λ k. Forbidden (oddAt c k) (askedOf q k) n)
 
 -- ---- document 01, Departures
 -- the operations es set PLL k's P to that divider less 1, as a u8, and the manual forbids the value
@@ -75,11 +69,11 @@ pub record WrittenAt (k : ℕ) (odd : Bool) (a : PllRequest) (n : Refusal) (es :
 
 -- one of the chip's PLLs
 abbrev pub Departure : Request → ChipState → Refusal → List Entry → Type 0
-Departure q c n es = SomePll c (λ k. WrittenAt k (oddP c k) (askedOf q k) n es)
+Departure q c n es = SomePll c (λ k. WrittenAt k (oddAt c k) (askedOf q k) n es)
 
 -- every value that es set the P of one of the chip's PLLs to is one that the manual allows
 abbrev pub AllowsEachP : ChipState → List Entry → Type 0
-AllowsEachP c es = (k v : ℕ) (before after : List Entry) → k < pllCount c → es ≡ before ++ (Set (ofPll k Fields.P) v ∷ after) → allowsP (oddP c k) v ≡ true
+AllowsEachP c es = (k v : ℕ) (before after : List Entry) → k < pllCount c → es ≡ before ++ (Set (ofPll k Fields.P) v ∷ after) → allowsP (oddAt c k) v ≡ true
 
 -- freeze ends, and the manual allows what it has written to every P
 pub record EndsAllowed (c : ChipState) (o : Outcome CoreClocks) : Type 0 where
@@ -89,11 +83,12 @@ pub record EndsAllowed (c : ChipState) (o : Outcome CoreClocks) : Type 0 where
   pub allowed : AllowsEachP c entries
 
 -- ---- an answer of the rules to a request, and how the Rust's setters and freeze come out
-pub record Agreement (q : Request) (c : ChipState) (x : Planned) (o : Outcome CoreClocks) : Type 0 where
+-- where f says what comes out of freeze for an answer that is a plan
+pub record AgreementAs (f : Planned → Freezes) (q : Request) (c : ChipState) (x : Planned) (o : Outcome CoreClocks) : Type 0 where
   -- a plan exactly where freeze ends and the manual allows what it has written to every P
   pub exactly : x .answer ≡ Accepted ↔ EndsAllowed c o
-  -- a plan: freeze ends with exactly its entries, in order, and its clocks
-  pub planned : x .answer ≡ Accepted → o ≡ ends (entriesOf x) (reported (x .plan))
+  -- a plan: freeze ends with exactly these entries, in order, and these clocks
+  pub planned : x .answer ≡ Accepted → o ≡ ends (f x .entries) (f x .clocks)
   -- a panic: the request is refused
   pub panicked : o ≡ panics → (n : Refusal) × (x .answer ≡ Refused n)
   -- a refusal other than 14 and 15: the setters or freeze panic
@@ -102,3 +97,7 @@ pub record Agreement (q : Request) (c : ChipState) (x : Planned) (o : Outcome Co
   pub caused : (n : Refusal) → x .answer ≡ Refused n → (numberOf n ≡ 14) ⊎ (numberOf n ≡ 15) → Cause q c n
   -- a refusal, and freeze ends all the same: it is 14 or 15, and freeze has written that divider, which the manual forbids
   pub departed : (n : Refusal) (es : List Entry) (k : CoreClocks) → x .answer ≡ Refused n → o ≡ ends es k → Departure q c n es
+
+-- nothing departs but 14 and 15: freeze ends with exactly the plan's entries, in order, and its clocks
+abbrev pub Agreement : Request → ChipState → Planned → Outcome CoreClocks → Type 0
+Agreement = AgreementAs asPlanned

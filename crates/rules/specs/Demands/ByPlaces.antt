@@ -17,23 +17,21 @@ use Rattle.types.specs.declared.ChipState.{ChipState}
 use Rattle.rules.specs.Document01.Chip.{scaleOf, hsidivOf}
 use Rattle.rules.specs.Document01.Bytes.{mco1Sources, mco2Sources, noPart}
 
+-- the number at a place, from 0; 0 past the end
+abbrev pub at : List ℕ → ℕ → ℕ
+at b k = getD b k 0
+
 -- ---- the chip's numbers
 abbrev pub stateOf : Chip → ChipState
 stateOf c = record {
   three = eqb (c .plls) 3;
-  odd1 = eqb (c .odd1) 1;
-  odd2 = eqb (c .odd2) 1;
-  odd3 = eqb (c .odd3) 1;
+  odd = eqb (at (c .odd) 0) 1 ∷ eqb (at (c .odd) 1) 1 ∷ eqb (at (c .odd) 2) 1 ∷ [];
   scale = scaleOf (c .scale);
   hsion = eqb (c .hsion) 1;
   hsidiv = hsidivOf (c .hsidiv);
 }
 
--- ---- the bytes, by places
-abbrev pub at : List ℕ → ℕ → ℕ
-at b k = getD b k 0
-
--- 4 bytes, little-endian
+-- ---- the bytes, by places: 4 bytes, little-endian
 abbrev pub wordAt : List ℕ → ℕ → ℕ
 wordAt b k = at b k + 256 * at b (k + 1) + 65_536 * at b (k + 2) + 16_777_216 * at b (k + 3)
 

@@ -2,7 +2,7 @@
 -- `requestOf bytes chip ≡ ok a` says that the bytes are a request: the others are refused with 1 (document 01, Refusals).
 use mathlib.Core.Path.{_≡_}
 use mathlib.Core.Bool.{true}
-use mathlib.Core.List.{List, [], _∷_}
+use mathlib.Core.List.{List, []}
 use Prim.Native.Nat.{ℕ, _≤_}
 use lib.ListN.{length}
 use Rattle.types.specs.declared.Chip.{Chip}
@@ -18,20 +18,10 @@ use Rattle.rules.specs.Manual.Tree.{among}
 use Rattle.rules.specs.Demands.Agreement.{Agreement}
 use Rattle.rules.specs.Demands.Legal.{LegalPlan}
 use Rattle.rules.specs.Demands.Readings.{Reads, BankReads}
+-- what the planner's call and the bank call list
+pub use Rattle.rules.specs.Document01.Refusals.{planNumbers, bankNumbers}
 
 -- ---- demand 1
--- what a typed request can be refused with; 12 is listed by document 01 and fits no request
-abbrev pub typedNumbers : List ℕ
-typedNumbers = 3 ∷ 4 ∷ 5 ∷ 6 ∷ 7 ∷ 8 ∷ 9 ∷ 10 ∷ 11 ∷ 13 ∷ 14 ∷ 15 ∷ 16 ∷ 17 ∷ 18 ∷ 19 ∷ 20 ∷ 21 ∷ 22 ∷ 23 ∷ []
-
--- the planner's call: 1 too
-abbrev pub planNumbers : List ℕ
-planNumbers = 1 ∷ typedNumbers
-
--- the bank call: 1 and 2 too
-abbrev pub bankNumbers : List ℕ
-bankNumbers = 1 ∷ 2 ∷ typedNumbers
-
 -- one complete plan, with 21 to 69 entries; or one listed refusal, with the blank plan and no entry
 pub record Answered (listed : List ℕ) (x : Planned) : Type 0 where
   pub plan : x .answer ≡ Accepted → (21 ≤ length (entriesOf x)) × (length (entriesOf x) ≤ 69)

@@ -20,6 +20,7 @@ use Rattle.types.specs.declared.Request.{Request}
 use Rattle.types.specs.declared.ChipState.{ChipState}
 use Rattle.types.specs.declared.Plan.{Plan}
 use Rattle.ieee754.specs.Whole.{fracnWhole, vcoWhole}
+use Rattle.rules.specs.Document01.Chip.{oddAt}
 use Rattle.rules.specs.Document01.Request.{sourceOf, askedOf}
 use Rattle.rules.specs.Document01.OnePll.{wanted, firstOf}
 use Rattle.rules.specs.Document01.Entries.{pllIn}
@@ -113,7 +114,7 @@ LegalThird false odd source a x = x ≡ Idle
 
 -- all PLLs of a plan, and its wait states up to the highest AHB clock of the manual's rows
 pub record LegalPlan (q : Request) (c : ChipState) (p : Plan) : Type 0 where
-  pub pll1 : LegalPll (c .odd1) (sourceOf q) (askedOf q 0) (pllIn p 0)
-  pub pll2 : LegalPll (c .odd2) (sourceOf q) (askedOf q 1) (pllIn p 1)
-  pub pll3 : LegalThird (c .three) (c .odd3) (sourceOf q) (askedOf q 2) (pllIn p 2)
-  pub flash : p .hclk ≤ highest (c .scale) * 1_000_000 → asks (rows (c .scale)) (p .hclk) ≡ waits (p .latency) (p .delay)
+  pub pll1 : LegalPll (oddAt c 0) (sourceOf q) (askedOf q 0) (pllIn p 0)
+  pub pll2 : LegalPll (oddAt c 1) (sourceOf q) (askedOf q 1) (pllIn p 1)
+  pub pll3 : LegalThird (c .three) (oddAt c 2) (sourceOf q) (askedOf q 2) (pllIn p 2)
+  pub flash : p .buses .ahb .clock ≤ highest (c .scale) * 1_000_000 → asks (rows (c .scale)) (p .buses .ahb .clock) ≡ waits (p .waits .latency) (p .waits .delay)

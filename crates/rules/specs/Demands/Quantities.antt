@@ -17,6 +17,7 @@ use Rattle.types.specs.declared.PllRequest.{PllRequest}
 use Rattle.types.specs.declared.Request.{Request}
 use Rattle.types.specs.declared.ChipState.{ChipState}
 use Rattle.ieee754.specs.Steps.{float, fracnFloat, vcoOf}
+use Rattle.rules.specs.Document01.Chip.{oddAt}
 use Rattle.rules.specs.Document01.Hertz.{isSet, hertzOr, ratioOf}
 use Rattle.rules.specs.Document01.Request.{sourceOf, needsPll1, askedOf}
 use Rattle.rules.specs.Document01.ChoiceOfM.{chosenM}
@@ -131,7 +132,7 @@ ofPll odd source a = record {
 -- ---- the system clock
 -- PLL1 P as planned
 abbrev pub pll1P : Request → ChipState → ℕ
-pll1P q c = clockAt (c .odd1) (sourceOf q) (askedOf q 0) (askedOf q 0 .p)
+pll1P q c = clockAt (oddAt c 0) (sourceOf q) (askedOf q 0) (askedOf q 0 .p)
 
 -- the system clock: PLL1 P as reported where it is needed, else the source
 abbrev pub system : Request → ChipState → ℕ
@@ -157,13 +158,13 @@ abbrev pub input1 : Request → ChipState → Mco1Source → Input
 input1 q c Mco1Source.Hsi = running 32_000_000
 input1 q c Mco1Source.Lse = record { lse = true; unplanned = false; clock = 0 }
 input1 q c Mco1Source.Hse = running (hertzOr (q .hse) 0)
-input1 q c Mco1Source.Pll1Q = output (askedOf q 0 .q) (clockAt (c .odd1) (sourceOf q) (askedOf q 0) (askedOf q 0 .q))
+input1 q c Mco1Source.Pll1Q = output (askedOf q 0 .q) (clockAt (oddAt c 0) (sourceOf q) (askedOf q 0) (askedOf q 0 .q))
 input1 q c Mco1Source.Hsi48 = running 48_000_000
 
 -- MCO2's
 abbrev pub input2 : Request → ChipState → Mco2Source → Input
 input2 q c Mco2Source.Sysclk = running (system q c)
-input2 q c Mco2Source.Pll2P = output (askedOf q 1 .p) (clockAt (c .odd2) (sourceOf q) (askedOf q 1) (askedOf q 1 .p))
+input2 q c Mco2Source.Pll2P = output (askedOf q 1 .p) (clockAt (oddAt c 1) (sourceOf q) (askedOf q 1) (askedOf q 1 .p))
 input2 q c Mco2Source.Hse = running (hertzOr (q .hse) 0)
 input2 q c Mco2Source.Pll1P = output (askedOf q 0 .p) (pll1P q c)
 input2 q c Mco2Source.Csi = running 4_000_000

@@ -26,7 +26,7 @@ use Rattle.rules.specs.Manual.Tree.{Oscillator, off, runs, Chain, along,
 -- ---- the clocks covered, by the request and the plan; nothing here looks at a bank
 -- the system clock comes from PLL1 where the plan says SW 3
 abbrev pub sysVia : Plan → Via
-sysVia p = cond (eqb (p .sw) 3) (by pll1) noPll
+sysVia p = cond (eqb (p .selectors .sw) 3) (by pll1) noPll
 
 -- MCO1's source comes through PLL1 where it is PLL1 Q
 abbrev pub mco1Via : Mco1Source → Via

@@ -12,7 +12,7 @@ use Rattle.types.specs.declared.Request.{Request}
 use Rattle.types.specs.declared.Chip.{Chip}
 use Rattle.types.specs.declared.ChipState.{ChipState}
 use Rattle.ieee754.specs.Steps.{float}
-use Rattle.rules.specs.Document01.Chip.{divisorOf}
+use Rattle.rules.specs.Document01.Chip.{divisorOf, oddAt, hasPll}
 use Rattle.rules.specs.Document01.Hertz.{isSet}
 use Rattle.rules.specs.Document01.Request.{fromHse1, fromHse2, pll1Asked, sourceOf, systemOf, needsPll1, askedOf}
 use Rattle.rules.specs.Document01.ChoiceOfM.{inRange}
@@ -20,13 +20,13 @@ use Rattle.rules.specs.Document01.OnePll.{wanted}
 use Rattle.rules.specs.Document01.Buses.{hpreFor}
 use Rattle.rules.specs.Demands.Rows.{Row, _when_}
 use Rattle.rules.specs.Demands.Quantities.{any, isZero, above, unlike, anyTo, isFractional, OfPll, ofPll, system, input1, input2, ratioAbove15}
-use Rattle.rules.specs.Demands.ByPlaces.{stateOf, badCode, badHertz, requestAt}
+use Rattle.rules.specs.Demands.ByPlaces.{at, stateOf, badCode, badHertz, requestAt}
 
 -- ---- 1, of the chip's numbers
 abbrev pub chipRows : Chip → List Row
 chipRows c =
     1 when not (eqb (c .plls) 2 || eqb (c .plls) 3)  -- PLL count 2 or 3
-    ∷ 1 when (ltb 1 (c .odd1) || ltb 1 (c .odd2) || ltb 1 (c .odd3))  -- odd-P permission per PLL
+    ∷ 1 when (ltb 1 (at (c .odd) 0) || ltb 1 (at (c .odd) 1) || ltb 1 (at (c .odd) 2))  -- odd-P permission per PLL
     ∷ 1 when ltb 3 (c .scale)  -- voltage scale 0 to 3
     ∷ 1 when ltb 1 (c .hsion)  -- HSION
     ∷ 1 when not (eqb (c .hsidiv) 1 || eqb (c .hsidiv) 2 || eqb (c .hsidiv) 4 || eqb (c .hsidiv) 8)  -- HSIDIV 1, 2, 4, 8
@@ -87,9 +87,9 @@ module _ (odd : Bool) (source : ℕ) (a : PllRequest) where
       ∷ 15 when (isSet (a .p) && not odd && eqb (x .dividerP % 2) 1)  -- P divider odd where forbidden
       ∷ []
 
--- PLL k, from 0; one with no output requested is skipped
-abbrev pub pllRowsAt : (odd : Bool) → Request → (k : ℕ) → List Row
-pllRowsAt odd q k = cond (wanted (askedOf q k)) (pllRows odd (sourceOf q) (askedOf q k)) []
+-- PLL k, from 0, where the chip has it; one with no output requested is skipped
+abbrev pub pllRowsAt : Request → ChipState → (k : ℕ) → List Row
+pllRowsAt q c k = cond (hasPll c k) (cond (wanted (askedOf q k)) (pllRows (oddAt c k) (sourceOf q) (askedOf q k)) []) []
 
 -- ---- 16 and 17
 abbrev pub hsiRows : ChipState → List Row
@@ -126,9 +126,9 @@ mcoRows q c =
 unfoldable pub rowsOf : Request → ChipState → List Row
 rowsOf q c =
     requestRows q
-    ++ (pllRowsAt (c .odd1) q 0
-    ++ (pllRowsAt (c .odd2) q 1
-    ++ (cond (c .three) (pllRowsAt (c .odd3) q 2) []
+    ++ (pllRowsAt q c 0
+    ++ (pllRowsAt q c 1
+    ++ (pllRowsAt q c 2
     ++ (hsiRows c
     ++ (busRows q c
     ++ mcoRows q c)))))

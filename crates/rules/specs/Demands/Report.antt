@@ -17,36 +17,36 @@ pllClocks x = record { p-ck = pClock x; q-ck = qClock x; r-ck = rClock x }
 -- the clocks of a plan
 abbrev pub reported : Plan → CoreClocks
 reported p = record {
-  hclk = p .hclk;
-  pclk1 = p .pclk1;
-  pclk2 = p .pclk2;
-  pclk3 = p .pclk3;
-  ppre1 = p .ppre1;
-  ppre2 = p .ppre2;
-  ppre3 = p .ppre3;
-  csi-ck = Hz (p .csi);
-  hsi-ck = Hz (p .hsi);
-  hsi48-ck = Hz (p .hsi48);
-  lsi-ck = Hz (p .lsi);
-  per-ck = Hz (p .per);
-  hse-ck = p .hse;
-  lse-ck = p .lse;
-  audio-ck = p .audio;
-  mco1-ck = p .mco1;
-  mco2-ck = p .mco2;
+  hclk = p .buses .ahb .clock;
+  pclk1 = p .buses .apb1 .clock;
+  pclk2 = p .buses .apb2 .clock;
+  pclk3 = p .buses .apb3 .clock;
+  ppre1 = p .buses .apb1 .pre;
+  ppre2 = p .buses .apb2 .pre;
+  ppre3 = p .buses .apb3 .pre;
+  csi-ck = Hz (p .clocks .csi);
+  hsi-ck = Hz (p .clocks .hsi);
+  hsi48-ck = Hz (p .clocks .hsi48);
+  lsi-ck = Hz (p .clocks .lsi);
+  per-ck = Hz (p .clocks .per);
+  hse-ck = p .clocks .hse;
+  lse-ck = p .clocks .lse;
+  audio-ck = p .clocks .audio;
+  mco1-ck = p .mcos .mco1 .clock;
+  mco2-ck = p .mcos .mco2 .clock;
   pll1 = pllClocks (pllIn p 0);
   pll2 = pllClocks (pllIn p 1);
   pll3 = pllClocks (pllIn p 2);
-  timx-ker-ck = p .timx;
-  timy-ker-ck = p .timy;
-  sys-ck = p .sys;
+  timx-ker-ck = p .clocks .timx;
+  timy-ker-ck = p .clocks .timy;
+  sys-ck = p .clocks .sys;
 }
 
 -- ---- one clock of those reported, for each that has a path: all but LSE and audio, which are passed through (document 01, One call)
-abbrev pub pllOf : CoreClocks → PllName → PllClocks
-pllOf k pll1 = k .pll1
-pllOf k pll2 = k .pll2
-pllOf k pll3 = k .pll3
+abbrev pub clocksOf : CoreClocks → PllName → PllClocks
+clocksOf k pll1 = k .pll1
+clocksOf k pll2 = k .pll2
+clocksOf k pll3 = k .pll3
 
 -- P, Q or R of a PLL
 abbrev pub outputOf : PllClocks → Output → Hertz
@@ -71,4 +71,4 @@ hertzOf k lsi = k .lsi-ck
 hertzOf k hse = k .hse-ck
 hertzOf k mco1 = k .mco1-ck
 hertzOf k mco2 = k .mco2-ck
-hertzOf k (output j o) = outputOf (pllOf k j) o
+hertzOf k (output j o) = outputOf (clocksOf k j) o

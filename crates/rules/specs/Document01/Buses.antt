@@ -1,17 +1,15 @@
 -- Document 01, One call, steps 5 to 7: the peripheral clock, AHB, APB and the timers.
 use Prim.Native.Nat.{ℕ, _/_}
 use mathlib.Core.Bool.{not, cond}
+use mathlib.Core.List.{List, [], _∷_}
 use lib.Dec.{leb, eqb}
 use Rattle.types.specs.declared.Hertz.{Hertz}
 use Rattle.types.specs.declared.Hertz.the-variants.{Unset, Hz}
+use Rattle.types.specs.declared.Bus.{Bus}
+use Rattle.types.specs.declared.Selected.{Selected}
 use Rattle.types.specs.declared.Refusal.the-variants.{BusZero, AhbZero}
 use Rattle.rules.specs.Document01.Result.{Result, ok, _>>=_, _>>_, require}
 use Rattle.rules.specs.Document01.Hertz.{ratioOf, hertzOr, notZero}
-
--- a selector's code and its clock
-pub record Selected : Type 0 where
-  pub sel : ℕ
-  pub clock : ℕ
 
 -- step 5: CSI if 4,000,000, else HSI
 abbrev pub csiOrHsi : ℕ → Selected
@@ -23,26 +21,36 @@ peripheralOf Unset hse = record { sel = 0; clock = 32_000_000 }
 peripheralOf (Hz h) Unset = csiOrHsi h
 peripheralOf (Hz h) (Hz e) = cond (eqb h e) (record { sel = 2; clock = h }) (csiOrHsi h)
 
--- step 6: the divisor of each ratio
-abbrev pub hpreOf : ℕ → ℕ
-hpreOf ratio =
-    cond (leb ratio 1) 1
-    (cond (leb ratio 2) 2
-    (cond (leb ratio 5) 4
-    (cond (leb ratio 11) 8
-    (cond (leb ratio 39) 16
-    (cond (leb ratio 95) 64
-    (cond (leb ratio 191) 128
-    (cond (leb ratio 383) 256 512)))))))
+-- ---- steps 6 and 7: ratios up to a bound, and the divisor that they give
+pub record RatioRow : Type 0 where
+  pub bound : ℕ
+  pub divisor : ℕ
 
--- step 7: the same for APB
-abbrev pub ppreOf : ℕ → ℕ
-ppreOf ratio = cond (leb ratio 1) 1 (cond (leb ratio 2) 2 (cond (leb ratio 5) 4 (cond (leb ratio 11) 8 16)))
+infix 70 _gives_
+-- a row, as it is written
+abbrev pub _gives_ : ℕ → ℕ → RatioRow
+bound gives divisor = record { bound = bound; divisor = divisor }
 
--- a bus: its divisor and its clock
-pub record Bus : Type 0 where
-  pub pre : ℕ
-  pub clock : ℕ
+-- the divisor of a ratio: of the first row that reaches up to it, else the last divisor
+abbrev pub divisorBy : List RatioRow → (last ratio : ℕ) → ℕ
+divisorBy [] last ratio = last
+divisorBy (r ∷ rs) last ratio = cond (leb ratio (r .bound)) (r .divisor) (divisorBy rs last ratio)
+
+-- step 6: 1, 2, 3–5, 6–11, 12–39, 40–95, 96–191, 192–383, more
+abbrev pub ahbRows : List RatioRow
+ahbRows = 1 gives 1 ∷ 2 gives 2 ∷ 5 gives 4 ∷ 11 gives 8 ∷ 39 gives 16 ∷ 95 gives 64 ∷ 191 gives 128 ∷ 383 gives 256 ∷ []
+
+-- and more gives 512
+abbrev pub hpreOf : (ratio : ℕ) → ℕ
+hpreOf = divisorBy ahbRows 512
+
+-- step 7: 1, 2, 3–5, 6–11, more
+abbrev pub apbRows : List RatioRow
+apbRows = 1 gives 1 ∷ 2 gives 2 ∷ 5 gives 4 ∷ 11 gives 8 ∷ []
+
+-- and more gives 16
+abbrev pub ppreOf : (ratio : ℕ) → ℕ
+ppreOf = divisorBy apbRows 16
 
 -- step 6: the divisor. Unset means the system clock
 abbrev pub hpreFor : (system : ℕ) → Hertz → ℕ

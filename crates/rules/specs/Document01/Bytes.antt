@@ -1,6 +1,6 @@
 -- Document 01, One call, from the top, second paragraph: the byte form of a request. It is read from the front, part by part, and each
 -- part takes its bytes; what does not fit is refusal 1. Codes: docs/CODES.md.
-use mathlib.Core.Bool.{Bool, true, false, cond}
+use mathlib.Core.Bool.{Bool, true, false, cond, _&&_}
 use mathlib.Core.List.{List, [], _∷_, _++_}
 use mathlib.Core.Path.{_≡_}
 use Prim.Native.Nat.{ℕ, zero, suc, _+_, _*_, _/_, _%_, _<_}
@@ -133,6 +133,20 @@ pllPart = do
 -- the PLL3 part, which a three-PLL chip must have, and a two-PLL chip must not
 abbrev pub noPart : PllRequest
 noPart = record { strategy = Integer; p = Unset; q = Unset; r = Unset }
+
+-- nothing stands there
+abbrev pub isUnset : Hertz → Bool
+isUnset Unset = true
+isUnset (Hz h) = false
+
+-- strategy 0
+abbrev pub isInteger : Strategy → Bool
+isInteger Integer = true
+isInteger Fractional = false
+
+-- a part that says nothing
+abbrev pub isNoPart : PllRequest → Bool
+isNoPart a = isInteger (a .strategy) && (isUnset (a .p) && (isUnset (a .q) && isUnset (a .r)))
 
 -- by the PLL count
 abbrev pub thirdPart : (three : Bool) → Reader PllRequest

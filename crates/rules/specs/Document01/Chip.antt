@@ -1,6 +1,6 @@
 -- Document 01, refusal 1, for the numbers beside a request: PLL count 2 or 3, odd-P permissions and HSION 0 or 1, voltage scale 0 to 3,
 -- HSIDIV 1, 2, 4, 8. All three permissions are judged on either chip.
-use mathlib.Core.Bool.{Bool, cond, _&&_, _||_}
+use mathlib.Core.Bool.{Bool, false, cond, _&&_, _||_}
 use mathlib.Core.List.{List, [], _∷_}
 use Prim.Native.Nat.{ℕ}
 use lib.Dec.{eqb, ltb}
@@ -36,19 +36,29 @@ divisorOf Hsidiv.Div8 = 8
 abbrev pub scaleOf : ℕ → Scale
 scaleOf n = getD (Scale0 ∷ Scale1 ∷ Scale2 ∷ Scale3 ∷ []) n Scale0
 
+-- the number that stands for PLL k's permission, from 0
+abbrev pub permission : Chip → (k : ℕ) → ℕ
+permission c k = getD (c .odd) k 0
+
+-- whether PLL k, from 0, may divide P by an odd number
+abbrev pub oddAt : ChipState → (k : ℕ) → Bool
+oddAt c k = getD (c .odd) k false
+
+-- whether the chip has PLL k, from 0: two on each chip, the third on one with three
+abbrev pub hasPll : ChipState → (k : ℕ) → Bool
+hasPll c k = ltb k 2 || (ltb k 3 && c .three)
+
 -- the chip's numbers, as a state
 unfoldable pub chipOf : Chip → Result ChipState
 chipOf c = do
   require (eqb (c .plls) 2 || eqb (c .plls) 3) OutsideCodes
-  require (isBit (c .odd1) && (isBit (c .odd2) && isBit (c .odd3))) OutsideCodes
+  require (isBit (permission c 0) && (isBit (permission c 1) && isBit (permission c 2))) OutsideCodes
   require (ltb (c .scale) 4) OutsideCodes
   require (isBit (c .hsion)) OutsideCodes
   require (isHsidiv (c .hsidiv)) OutsideCodes
   ok (record {
     three = eqb (c .plls) 3;
-    odd1 = eqb (c .odd1) 1;
-    odd2 = eqb (c .odd2) 1;
-    odd3 = eqb (c .odd3) 1;
+    odd = eqb (permission c 0) 1 ∷ eqb (permission c 1) 1 ∷ eqb (permission c 2) 1 ∷ [];
     scale = scaleOf (c .scale);
     hsion = eqb (c .hsion) 1;
     hsidiv = hsidivOf (c .hsidiv);

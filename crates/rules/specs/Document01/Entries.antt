@@ -3,7 +3,6 @@ use mathlib.Core.List.{List, [], _∷_, _++_}
 use mathlib.Core.Bool.{Bool, true, false, cond}
 use Prim.Native.Nat.{ℕ, _-_}
 use lib.Dec.{ltb}
-use lib.ListN.{getD}
 use Rattle.types.specs.declared.Entry.{Entry}
 use Rattle.types.specs.declared.Entry.the-variants.{Set, Set2, Set3, Set4, Wait, Wait2, Check}
 use Rattle.types.specs.declared.Hertz.{Hertz}
@@ -15,10 +14,16 @@ use Rattle.types.specs.declared.Fraction.the-variants.{Whole, Part}
 use Rattle.types.specs.declared.PllSettings.{PllSettings}
 use Rattle.types.specs.declared.Pll.{Pll}
 use Rattle.types.specs.declared.Pll.the-variants.{Idle, Runs}
+use Rattle.types.specs.declared.PllPlan.{PllPlan}
+use Rattle.types.specs.declared.Waits.{Waits}
+use Rattle.types.specs.declared.Selectors.{Selectors}
+use Rattle.types.specs.declared.Buses.{Buses}
+use Rattle.types.specs.declared.Mcos.{Mcos}
 use Rattle.types.specs.declared.Plan.{Plan}
 use Rattle.types.specs.declared.Answer.{Answer}
 use Rattle.types.specs.declared.Answer.the-variants.{Accepted, Refused}
 use Rattle.types.specs.declared.Planned.{Planned}
+use Rattle.rules.specs.Document01.OnePll.{pllFrom}
 use Rattle.rules.specs.Document01.Fields.{ofPll}
 use Rattle.rules.specs.Document01.Fields
 
@@ -54,20 +59,24 @@ setupEntries k (Runs s) = settingEntries k s
 
 -- PLL k of a plan, from 0
 abbrev pub pllIn : Plan → ℕ → Pll
-pllIn p k = getD (p .plls) k (record { pll = Idle }) .pll
+pllIn p k = pllFrom (p .plls) k
 
 -- PRFTEN: 1 if latency is above 0
 abbrev pub prftenOf : ℕ → ℕ
 prftenOf latency = cond (ltb 0 latency) 1 0
 
+-- for each PLL, what sets it up
+abbrev pub setups : List PllPlan → List Entry
+setups l = setupEntries 0 (pllFrom l 0) ++ (setupEntries 1 (pllFrom l 1) ++ setupEntries 2 (pllFrom l 2))
+
 -- LSI, flash, CSI, HSI48 and the MCOs
-unfoldable pub clockEntries : Plan → List Entry
-clockEntries p =
+unfoldable pub clockEntries : Waits → Selectors → Mcos → List Entry
+clockEntries w s m =
     Set Fields.LSION 1 ∷ Wait Fields.LSIRDY 1
-    ∷ Set3 Fields.WRHIGHFREQ (p .delay) Fields.LATENCY (p .latency) Fields.PRFTEN (prftenOf (p .latency)) ∷ Wait Fields.LATENCY (p .latency)
+    ∷ Set3 Fields.WRHIGHFREQ (w .delay) Fields.LATENCY (w .latency) Fields.PRFTEN (prftenOf (w .latency)) ∷ Wait Fields.LATENCY (w .latency)
     ∷ Set Fields.CSION 1 ∷ Wait Fields.CSIRDY 1
     ∷ Set Fields.HSI48ON 1 ∷ Wait Fields.HSI48RDY 1
-    ∷ Set4 Fields.MCO1SEL (p .mco1sel) Fields.MCO1PRE (p .mco1pre) Fields.MCO2SEL (p .mco2sel) Fields.MCO2PRE (p .mco2pre) ∷ []
+    ∷ Set4 Fields.MCO1SEL (s .mco1sel) Fields.MCO1PRE (m .mco1 .pre) Fields.MCO2SEL (s .mco2sel) Fields.MCO2PRE (m .mco2 .pre) ∷ []
 
 -- HSEBYP: 1 with bypass
 abbrev pub bit : Bool → ℕ
@@ -94,30 +103,34 @@ abbrev pub startEntries : (k : ℕ) → Pll → List Entry
 startEntries k Idle = []
 startEntries k (Runs s) = outputStart k (s .p)
 
+-- the starts in PLL order
+abbrev pub starts : List PllPlan → List Entry
+starts l = startEntries 0 (pllFrom l 0) ++ (startEntries 1 (pllFrom l 1) ++ startEntries 2 (pllFrom l 2))
+
 -- the prescalers, the selectors and the compensation cell
-unfoldable pub busEntries : Plan → List Entry
-busEntries p =
-    Set4 Fields.HPRE (p .hpre) Fields.PPRE1 (p .ppre1) Fields.PPRE2 (p .ppre2) Fields.PPRE3 (p .ppre3) ∷ Wait Fields.HPRE (p .hpre)
-    ∷ Set Fields.CKPERSEL (p .ckpersel)
+unfoldable pub busEntries : Buses → Selectors → List Entry
+busEntries b s =
+    Set4 Fields.HPRE (b .ahb .pre) Fields.PPRE1 (b .apb1 .pre) Fields.PPRE2 (b .apb2 .pre) Fields.PPRE3 (b .apb3 .pre) ∷ Wait Fields.HPRE (b .ahb .pre)
+    ∷ Set Fields.CKPERSEL (s .ckpersel)
     ∷ Set Fields.TIMPRE 0
-    ∷ Set Fields.SW (p .sw) ∷ Wait Fields.SWS (p .sw)
+    ∷ Set Fields.SW (s .sw) ∷ Wait Fields.SWS (s .sw)
     ∷ Check Fields.CSIRDY 1
     ∷ Set Fields.SBSEN 1
     ∷ Set4 Fields.EN1 1 Fields.CS1 0 Fields.EN2 1 Fields.CS2 0 ∷ Wait2 Fields.RDY1 1 Fields.RDY2 1 ∷ []
 
+-- the whole list of a plan, with these starts
+unfoldable pub listWith : (starts : List PllPlan → List Entry) → Plan → List Entry
+listWith starts p =
+    setups (p .plls)
+    ++ (clockEntries (p .waits) (p .selectors) (p .mcos)
+    ++ (hseEntries (p .clocks .hse) (p .bypass)
+    ++ (sourceEntries (p .three) (p .selectors .src)
+    ++ (starts (p .plls)
+    ++ busEntries (p .buses) (p .selectors)))))
+
 -- the whole list of a plan
-unfoldable pub planEntries : Plan → List Entry
-planEntries p =
-    setupEntries 0 (pllIn p 0)
-    ++ (setupEntries 1 (pllIn p 1)
-    ++ (setupEntries 2 (pllIn p 2)
-    ++ (clockEntries p
-    ++ (hseEntries (p .hse) (p .bypass)
-    ++ (sourceEntries (p .three) (p .src)
-    ++ (startEntries 0 (pllIn p 0)
-    ++ (startEntries 1 (pllIn p 1)
-    ++ (startEntries 2 (pllIn p 2)
-    ++ busEntries p))))))))
+abbrev pub planEntries : Plan → List Entry
+planEntries = listWith starts
 
 -- a refused request has no entry
 abbrev pub answerEntries : Answer → Plan → List Entry

@@ -4,16 +4,12 @@ use mathlib.Core.Bool.{not, _&&_}
 use lib.Dec.{leb, eqb}
 use Rattle.types.specs.declared.Hertz.{Hertz}
 use Rattle.types.specs.declared.Hertz.the-variants.{Unset, Hz}
+use Rattle.types.specs.declared.Mco.{Mco}
 use Rattle.types.specs.declared.Mco1Source.{Mco1Source}
 use Rattle.types.specs.declared.Mco2Source.{Mco2Source}
 use Rattle.types.specs.declared.Refusal.the-variants.{Mco1Lse, McoNoOutput, McoZero, McoRatio}
 use Rattle.rules.specs.Document01.Result.{Result, refused, ok, _>>=_, _>>_, require}
 use Rattle.rules.specs.Document01.Hertz.{ratioOf, hertzOr}
-
--- a prescaler and the clock reported
-pub record Mco : Type 0 where
-  pub pre : ℕ
-  pub clock : Hertz
 
 -- refusal 21
 abbrev pub planned : Hertz → Result ℕ

@@ -3,6 +3,7 @@ use Prim.Native.Nat.{ℕ, _*_, _/_, _%_, min, max}
 use mathlib.Core.List.{List, [], _∷_, _++_}
 use mathlib.Core.Bool.{Bool, true, false, _&&_, _||_, cond}
 use lib.Dec.{leb, ltb, eqb}
+use lib.ListN.{getD}
 use Rattle.types.specs.declared.Hertz.{Hertz}
 use Rattle.types.specs.declared.Hertz.the-variants.{Unset, Hz}
 use Rattle.types.specs.declared.Strategy.{Strategy}
@@ -15,6 +16,7 @@ use Rattle.types.specs.declared.Fraction.the-variants.{Whole, Part}
 use Rattle.types.specs.declared.PllSettings.{PllSettings}
 use Rattle.types.specs.declared.Pll.{Pll}
 use Rattle.types.specs.declared.Pll.the-variants.{Idle, Runs}
+use Rattle.types.specs.declared.PllPlan.{PllPlan}
 use Rattle.types.specs.declared.Refusal.the-variants.{OutputZero, OutputsTooFarApart, OutputTooHigh, TargetOutside, NoM, NOutside, FracnOutside, PDividerAbove128, PDividerOdd}
 use Rattle.types.specs.declared.FoundM.{FoundM}
 use Rattle.types.specs.declared.FoundM.the-variants.{Nothing, M}
@@ -199,6 +201,10 @@ running (ok s) = ok (Runs s)
 -- one PLL
 unfoldable pub pllOf : (odd : Bool) → (source : ℕ) → PllRequest → Result Pll
 pllOf odd source a = cond (wanted a) (running (runs odd source a)) (ok Idle)
+
+-- PLL k, from 0, of those that stand by their number
+abbrev pub pllFrom : List PllPlan → (k : ℕ) → Pll
+pllFrom l k = getD l k (record { pll = Idle }) .pll
 
 -- ---- what a PLL reports
 abbrev pub clockOf : PllOutput → Hertz

@@ -11,7 +11,7 @@ use Rattle.types.specs.declared.Mco2Source.{Mco2Source}
 use Rattle.types.specs.declared.PllRequest.{PllRequest}
 use Rattle.types.specs.declared.Request.{Request}
 use Rattle.types.specs.declared.Refusal.the-variants.{AboveLimit, McoHseUnstated, Pll1PUnlikeSystem, SourceZero}
-use Rattle.rules.specs.Document01.Result.{Result, ok, _>>=_, _>>_, require}
+use Rattle.rules.specs.Document01.Result.{Result, _>>_, require}
 use Rattle.rules.specs.Document01.Hertz.{isSet, hertzOr, orElse}
 
 -- PLL k's part of the request, from 0
@@ -132,13 +132,18 @@ askedOf q zero = cond (needsPll1 q) (withP (pll1Asked q) (systemOf q)) (pll1Aske
 askedOf q (suc zero) = pll2Asked q
 askedOf q (suc (suc k)) = pllAt q 2
 
--- refusal 5
-unfoldable pub forSystemClock : (needed : Bool) → ℕ → PllRequest → Result PllRequest
-forSystemClock false s a = ok a
-forSystemClock true s a = do
-  require (like (a .p) s) Pll1PUnlikeSystem
-  ok (withP a s)
+-- refusal 5: a system clock that needs PLL1 P, and a P unlike it
+abbrev pub systemFits : Request → Result (Unit {0})
+systemFits q = require (not (needsPll1 q) || like (pll1Asked q .p) (systemOf q)) Pll1PUnlikeSystem
 
 -- refusal 6
 abbrev pub sourced : Request → Result (Unit {0})
 sourced q = require (not (eqb (sourceOf q) 0)) SourceZero
+
+-- steps 1 to 3, with refusals 3 to 6
+unfoldable pub configured : Request → Result (Unit {0})
+configured q = do
+  limited q
+  stated q
+  systemFits q
+  sourced q

@@ -1,7 +1,7 @@
 -- The clock tree: from the words of a bank and the request's HSE hertz, each clock's path or none.
--- Document 01, 'The clock tree'; selectors as in RM0492 and RM0481; words and codes as in docs/CODES.md. The manuals are not at hand: a selector's codes
--- are those that document 01 names and the Rust's register crate has. With a manual, compare SW, MCO1SEL, MCO2SEL and TIMPRE in RCC_CFGR1, PLLxSRC
--- in RCC_PLLxCFGR, CKPERSEL in RCC_CCIPR5, HSIDIV in RCC_CR, and the figure of the clock tree.
+-- Document 01, 'The clock tree'; selectors as in RM0492 and RM0481; words and codes as in docs/CODES.md. The manuals are not at hand:
+-- document 01 and the Rust name what a selector selects, and its codes stand in neither. With a manual, compare these first: SW, MCO1SEL, MCO2SEL
+-- and TIMPRE in RCC_CFGR1, PLLxSRC in RCC_PLLxCFGR, CKPERSEL in RCC_CCIPR5, HSIDIV in RCC_CR, and the figure of the clock tree.
 use mathlib.Core.Bool.{Bool, false, cond, _||_}
 use mathlib.Core.List.{List, [], _∷_}
 use Prim.Native.Nat.{ℕ, zero, suc, _+_, _/_}

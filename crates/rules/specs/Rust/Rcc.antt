@@ -14,6 +14,7 @@ use Rattle.types.specs.declared.Scale.{Scale}
 use Rattle.types.specs.declared.Scale.the-variants.{Scale0, Scale1, Scale2, Scale3}
 use Rattle.types.specs.declared.Hsidiv.{Hsidiv}
 use Rattle.types.specs.declared.ChipState.{ChipState}
+use Rattle.rules.specs.Document01.Chip.{oddAt}
 use Rattle.rules.specs.Document01.Fields
 use Rattle.rules.specs.Document01.Fields.{ofPll}
 use Rattle.rules.specs.Document01.Request.{pllAt}
@@ -372,9 +373,9 @@ if-rm0481 false run a = return a
 -- Configure PLL1, PLL2, PLL3. Whether P may be odd is each `pll_setup!` call's
 unfoldable pub plls-setup : ChipState → Config → Run Plls
 plls-setup chip c = do
-  pll1 ← pll-setup 0 (chip .odd1) (srcclk c) (c .pll1)
-  pll2 ← pll-setup 1 (chip .odd2) (srcclk c) (c .pll2)
-  pll3 ← if-rm0481 (chip .three) (pll-setup 2 (chip .odd3) (srcclk c) (c .pll3)) no-pll
+  pll1 ← pll-setup 0 (oddAt chip 0) (srcclk c) (c .pll1)
+  pll2 ← pll-setup 1 (oddAt chip 1) (srcclk c) (c .pll2)
+  pll3 ← if-rm0481 (chip .three) (pll-setup 2 (oddAt chip 2) (srcclk c) (c .pll3)) no-pll
   return (record { pll1 = pll1; pll2 = pll2; pll3 = pll3 })
 
 -- let sys_ck = if sys_use_pll1_p { pll1_p_ck.unwrap() } else { sys_ck }

@@ -1,27 +1,14 @@
 -- `sheet::bytes_meant` meets its contract.
 use borrow.Author.Tests.{eq-eqb, ne-eqb}
-use Prim.Native.Nat.{_-_}
 use borrow.Author.Needs.{needs}
 use Rattle.sheet.proofs.bytes_meant.Statement.{statement}
 use Rattle.sheet.proofs.bytes_meant.Tie as tie
 
-byte-at-requires : tie.Need-byte-at-requires
-byte-at-requires c κs = tt
-
-cast-given : tie.Need-cast-given
-cast-given c = search needs
-
 returns : tie.Need-returns
 returns c = rw (← c .before .byte-at .ensures, ne-eqb _ _ (c .if1 .taken))
 
-byte-at-requires-2 : tie.Need-byte-at-requires-2
-byte-at-requires-2 c κs = tt
-
 returns-2 : tie.Need-returns-2
 returns-2 c = rw (← c .before .before .before .byte-at .ensures, eq-eqb _ _ (c .before .before .if1 .left), ← c .before .byte-at2 .ensures, eq-eqb _ _ (c .if2 .taken))
-
-no-pll3-requires : tie.Need-no-pll3-requires
-no-pll3-requires c κs = tt
 
 returns-3 : tie.Need-returns-3
 returns-3 c = rw (← c .before .before .before .before .before .byte-at .ensures, eq-eqb _ _ (c .before .before .before .before .if1 .left), ← c .before .before .before .byte-at2 .ensures, ne-eqb _ _ (c .before .before .if2 .left), ← c .before .no-pll3 .ensures, c .if3 .taken)
@@ -30,14 +17,4 @@ returns-4 : tie.Need-returns-4
 returns-4 c = rw (← c .before .before .before .before .before .byte-at .ensures, eq-eqb _ _ (c .before .before .before .before .if1 .left), ← c .before .before .before .byte-at2 .ensures, ne-eqb _ _ (c .before .before .if2 .left), ← c .before .no-pll3 .ensures, c .if3 .left)
 
 pub bytes-meant-spec : {M : Type 1} → statement M
-bytes-meant-spec =
-    tie.close
-    (tie.spec
-    byte-at-requires
-    cast-given
-    returns
-    byte-at-requires-2
-    returns-2
-    no-pll3-requires
-    returns-3
-    returns-4)
+bytes-meant-spec = tie.close (tie.spec (λ c κs. tt) (λ c. search needs) returns (λ c κs. tt) returns-2 (λ c κs. tt) returns-3 returns-4)

@@ -16,17 +16,8 @@ abbrev μ-loop : tie.MeasureT-loop
 loop-holds : tie.Need-loop-holds Inv-loop μ-loop
 loop-holds c = begins (now (c .before .args .sheet))
 
-byte-at-requires : tie.Need-byte-at-requires Inv-loop μ-loop
-byte-at-requires c κs = tt
-
 returns : tie.Need-returns Inv-loop μ-loop
 returns c = no-zero _ (c .before .before .before .loop .i) (c .before .before .before .loop .inv) (c .before .before .loop-test .taken) (λ e. c .if1 .taken (c .before .byte-at .ensures ∙ e))
-
-add-i : tie.Need-add-i Inv-loop μ-loop
-add-i c = search needs
-
-loop-less : tie.Need-loop-less Inv-loop μ-loop
-loop-less c = search needs
 
 loop-again : tie.Need-loop-again Inv-loop μ-loop
 loop-again c = goes-on _ (c .before .before .before .loop .i) (c .before .before .before .loop .inv) (c .before .before .loop-test .taken) (sym (c .before .byte-at .ensures) ∙ c .if1 .left)
@@ -36,14 +27,4 @@ returns-2 c = ends _ (c .before .loop .i) (c .before .loop .inv) (c .loop-test .
 
 pub no-pll3-spec : {M : Type 1} → statement M
 no-pll3-spec =
-    tie.close
-    (tie.spec
-    Inv-loop
-    μ-loop
-    loop-holds
-    byte-at-requires
-    returns
-    add-i
-    loop-less
-    loop-again
-    returns-2)
+    tie.close (tie.spec Inv-loop μ-loop loop-holds (λ c κs. tt) returns (λ c. search needs) (λ c. search needs) loop-again returns-2)

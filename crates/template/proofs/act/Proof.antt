@@ -13,37 +13,16 @@ returns c = let a = c .before .before .before .before .args in told (not-shown (
 returns-2 : tie.Need-returns-2
 returns-2 c = let a = c .before .before .before .before .before .before .before .args in told (opened (now (a .names)) (a .n) (a .s) (a .b) (not-false _ (c .before .before .before .if1 .left)) (c .before .if2 .taken) (c .if3 .taken)) (nothing (now (a .out)) (a .at) (c .before .before .before .before .before .before .before .pre))
 
-push-requires : tie.Need-push-requires
-push-requires c κs = search needs
-
-same-length : tie.Need-same-length
-same-length c = search needs
-
 returns-3 : tie.Need-returns-3
 returns-3 c = let a = c .before .before .before .before .before .before .before .before .before .before .before .args in told (as-it-is (now (a .names)) (a .n) (a .s) (a .b) (not-false _ (c .before .before .before .before .before .before .before .if1 .left)) (c .before .before .before .before .before .if2 .taken) (c .before .before .before .before .if3 .left)) (c .before .before .push .ensures)
 
 returns-4 : tie.Need-returns-4
 returns-4 c = let a = c .before .before .before .before .before .before .before .before .args in told (nothing-more (now (a .names)) (a .n) (a .s) (a .b) (not-false _ (c .before .before .before .before .if1 .left)) (c .before .before .if2 .left) (c .if4 .taken)) (nothing (now (a .out)) (a .at) (c .before .before .before .before .before .before .before .before .pre))
 
-command-requires : tie.Need-command-requires
-command-requires c κs = search needs
-
-same-length-2 : tie.Need-same-length-2
-same-length-2 c = search needs
-
 returns-5 : tie.Need-returns-5
 returns-5 c = let a = c .before .before .before .before .before .before .before .before .before .before .before .before .args in told (commanded (now (a .names)) (a .n) (a .s) (a .b) (not-false _ (c .before .before .before .before .before .before .before .before .if1 .left)) (c .before .before .before .before .before .before .if2 .left) (c .before .before .before .before .if4 .left)) (c .before .before .command .ensures)
 
 pub act-spec : {M : Type 1} → statement M
 act-spec =
-    tie.close
-    (tie.spec
-    returns
-    returns-2
-    push-requires
-    same-length
-    returns-3
-    returns-4
-    command-requires
-    same-length-2
-    returns-5)
+    tie.close (tie.spec returns returns-2 (λ c κs. search needs) (λ c. search needs) returns-3 returns-4 (λ c κs. search needs)
+    (λ c. search needs) returns-5)

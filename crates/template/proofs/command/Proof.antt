@@ -7,31 +7,13 @@ use Rattle.template.specs.Template.{commandWrites}
 use Rattle.template.proofs.command.Statement.{statement}
 use Rattle.template.proofs.command.Tie as tie
 
-decimal-requires : tie.Need-decimal-requires
-decimal-requires c κs = search needs
-
-same-length : tie.Need-same-length
-same-length c = search needs
-
 returns : tie.Need-returns
 unfolding commandWrites
 returns c = rw (eq-eqb (c .before .before .before .before .before .before .before .args .b) 125 (c .before .before .before .before .if1 .taken)) (c .before .before .decimal .ensures)
 
-name-requires : tie.Need-name-requires
-name-requires c κs = search needs
-
-same-length-2 : tie.Need-same-length-2
-same-length-2 c = search needs
-
 returns-2 : tie.Need-returns-2
 unfolding commandWrites
 returns-2 c = let b = c .before .before .before .before .before .before .before .before .args .b in rw (ne-eqb b 125 (c .before .before .before .before .before .if1 .left), eq-eqb b 35 (c .before .before .before .before .if2 .taken)) (c .before .before .name .ensures)
-
-column-requires : tie.Need-column-requires
-column-requires c κs = search needs
-
-same-length-3 : tie.Need-same-length-3
-same-length-3 c = search needs
 
 returns-3 : tie.Need-returns-3
 unfolding commandWrites
@@ -43,15 +25,5 @@ returns-4 c = let b = c .before .before .before .before .before .args .b in rw (
 
 pub command-spec : {M : Type 1} → statement M
 command-spec =
-    tie.close
-    (tie.spec
-    decimal-requires
-    same-length
-    returns
-    name-requires
-    same-length-2
-    returns-2
-    column-requires
-    same-length-3
-    returns-3
-    returns-4)
+    tie.close (tie.spec (λ c κs. search needs) (λ c. search needs) returns (λ c κs. search needs) (λ c. search needs) returns-2
+    (λ c κs. search needs) (λ c. search needs) returns-3 returns-4)

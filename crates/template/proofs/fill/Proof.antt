@@ -1,14 +1,10 @@
 -- `template::fill` meets its contract.
-use mathlib.Core.Path.{refl, _≡_}
-use denote.Ref.{now}
-use Prim.Native.Nat.{_≤_, _<_, _-_}
-use native.Mathlib.Omega.{arith}
+use mathlib.Core.Path.{refl}
+use Prim.Native.Nat.{_-_}
 use lib.ListN.{length}
 use borrow.Author.Needs.{needs}
 use Rattle.template.proofs.Whole.{Going, starts, goes-on, whole}
-use Rattle.template.proofs.Written.{nothing, within, kept}
-use Rattle.template.specs.Template.{stateAfter, textAfter}
-use Rattle.template.specs.Write.{Wrote}
+use Rattle.template.proofs.Written.{within, kept}
 use Rattle.template.proofs.fill.Statement.{statement}
 use Rattle.template.proofs.fill.Tie as tie
 
@@ -18,29 +14,14 @@ Inv-loop template names numbers out₀ s₀ at₀ i₀ i-end out s at i = Going 
 abbrev μ-loop : tie.MeasureT-loop
 μ-loop template names numbers out₀ s₀ at₀ i₀ i-end out s at i = length template - i
 
-at-stage-requires : tie.Need-at-stage-requires Inv-loop μ-loop
-at-stage-requires c κs = search needs
-
 loop-holds : tie.Need-loop-holds Inv-loop μ-loop
 loop-holds c = starts _ _ _ _ _ (c .at-stage .ensures)
-
-number-at-requires : tie.Need-number-at-requires Inv-loop μ-loop
-number-at-requires c κs = search needs
-
-shared-slice-read-b : tie.Need-shared-slice-read-b Inv-loop μ-loop
-shared-slice-read-b c = search needs
 
 act-requires : tie.Need-act-requires Inv-loop μ-loop
 act-requires c κs = within (c .before .before .before .before .loop .inv .wrote)
 
 next-state-requires : tie.Need-next-state-requires Inv-loop μ-loop
 next-state-requires c κs = c .before .before .before .before .before .before .before .loop .inv .below
-
-add-i : tie.Need-add-i Inv-loop μ-loop
-add-i c = search needs
-
-loop-less : tie.Need-loop-less Inv-loop μ-loop
-loop-less c = search needs
 
 loop-again : tie.Need-loop-again Inv-loop μ-loop
 loop-again c = goes-on _ _ _ (c .before .before .before .before .before .before .before .before .loop .inv) (c .before .before .before .before .before .before .before .loop-test .taken) _ _ (c .before .before .before .before .before .before .number-at .ensures) refl (c .before .before .before .act .ensures) _ (c .next-state .ensures)
@@ -53,18 +34,5 @@ returns c = whole _ _ _ (c .before .loop .inv) (c .loop-test .left)
 
 pub fill-spec : {M : Type 1} → statement M
 fill-spec =
-    tie.close
-    (tie.spec
-    Inv-loop
-    μ-loop
-    at-stage-requires
-    loop-holds
-    number-at-requires
-    shared-slice-read-b
-    act-requires
-    next-state-requires
-    add-i
-    loop-less
-    loop-again
-    same-length
-    returns)
+    tie.close (tie.spec Inv-loop μ-loop (λ c κs. search needs) loop-holds (λ c κs. search needs) (λ c. search needs) act-requires
+    next-state-requires (λ c. search needs) (λ c. search needs) loop-again same-length returns)

@@ -8,17 +8,8 @@ use Rattle.template.specs.Template.{atStage}
 use Rattle.template.proofs.in_braces.Statement.{statement}
 use Rattle.template.proofs.in_braces.Tie as tie
 
-is-digit-requires : tie.Need-is-digit-requires
-is-digit-requires c κs = search needs
-
 sub-digit : tie.Need-sub-digit
 sub-digit c = omega (arith, from-48 (c .before .before .args .b) (sym (c .before .is-digit .ensures) ∙ c .if1 .taken))
-
-mul-t6 : tie.Need-mul-t6
-mul-t6 c = search needs
-
-add-t7 : tie.Need-add-t7
-add-t7 c = search needs
 
 returns : tie.Need-returns
 returns c = let a = c .before .before .before .args in digit (a .n) (a .s) (a .b) (sym (c .before .before .is-digit .ensures) ∙ c .before .if1 .taken)
@@ -26,21 +17,10 @@ returns c = let a = c .before .before .before .args in digit (a .n) (a .s) (a .b
 returns-2 : tie.Need-returns-2
 returns-2 c = let a = c .before .before .before .args in colon (a .n) (a .s) (a .b) (sym (c .before .before .is-digit .ensures) ∙ c .before .if1 .left) (c .if2 .taken)
 
-shown-by-requires : tie.Need-shown-by-requires
-shown-by-requires c κs = search needs
-
 returns-3 : tie.Need-returns-3
 returns-3 c = let a = c .before .before .before .before .args in ap (λ (t : Bool). atStage 2 t) (c .shown-by .ensures) ∙ command (a .n) (a .s) (a .b) (sym (c .before .before .before .is-digit .ensures) ∙ c .before .before .if1 .left) (c .before .if2 .left)
 
 pub in-braces-spec : {M : Type 1} → statement M
 in-braces-spec =
-    tie.close
-    (tie.spec
-    is-digit-requires
-    sub-digit
-    mul-t6
-    add-t7
-    returns
-    returns-2
-    shown-by-requires
+    tie.close (tie.spec (λ c κs. search needs) sub-digit (λ c. search needs) (λ c. search needs) returns returns-2 (λ c κs. search needs)
     returns-3)

@@ -7,9 +7,6 @@ use borrow.Author.Needs.{needs}
 use Rattle.text.proofs.byte_at.Statement.{statement}
 use Rattle.text.proofs.byte_at.Tie as tie
 
-shared-slice-read-result : tie.Need-shared-slice-read-result
-shared-slice-read-result c = search needs
-
 returns : tie.Need-returns
 returns c = let a = c .before .before .args in any-default (now (a .s)) (a .i) 0 (a .b) (c .before .if1 .taken)
 
@@ -17,4 +14,4 @@ returns-2 : tie.Need-returns-2
 returns-2 c = sym (List·getD-eq-default (now (c .before .args .s)) (c .before .args .b) (c .if1 .left))
 
 pub byte-at-spec : {M : Type 1} → statement M
-byte-at-spec = tie.close (tie.spec shared-slice-read-result returns returns-2)
+byte-at-spec = tie.close (tie.spec (λ c. search needs) returns returns-2)

@@ -10,23 +10,8 @@ use borrow.Author.Needs.{needs}
 use Rattle.text.proofs.hertz.Statement.{statement}
 use Rattle.text.proofs.hertz.Tie as tie
 
-pointed-requires : tie.Need-pointed-requires
-pointed-requires c κs = search needs
-
 returns : tie.Need-returns
 returns c = nothing (now (c .before .before .before .args .s)) (c .before .if1 .taken) (c .pointed .ensures)
-
-sub-last : tie.Need-sub-last
-sub-last c = search needs
-
-shared-slice-read-unit-of : tie.Need-shared-slice-read-unit-of
-shared-slice-read-unit-of c = search needs
-
-unit-of-requires : tie.Need-unit-of-requires
-unit-of-requires c κs = search needs
-
-pointed-requires-2 : tie.Need-pointed-requires-2
-pointed-requires-2 c κs = search needs
 
 returns-2 : tie.Need-returns-2
 returns-2 c = no-unit (now (c .before .before .before .before .before .before .args .s)) (sym (c .before .before .unit-of .ensures) ∙ c .before .if2 .taken) (c .pointed2 .ensures)
@@ -42,15 +27,5 @@ returns-3 c = in-unit (now (c .before .before .before .before .before .before .b
 
 pub hertz-spec : {M : Type 1} → statement M
 hertz-spec =
-    tie.close
-    (tie.spec
-    pointed-requires
-    returns
-    sub-last
-    shared-slice-read-unit-of
-    unit-of-requires
-    pointed-requires-2
-    returns-2
-    slice-aggregate-pointed
-    pointed-requires-3
-    returns-3)
+    tie.close (tie.spec (λ c κs. search needs) returns (λ c. search needs) (λ c. search needs) (λ c κs. search needs) (λ c κs. search needs)
+    returns-2 slice-aggregate-pointed pointed-requires-3 returns-3)

@@ -9,40 +9,16 @@ use Rattle.walk.proofs.shows.Tie as tie
 returns : tie.Need-returns
 returns c = by-check (c .before .args .w) (c .if1 .taken)
 
-enum-known-answer : tie.Need-enum-known-answer
-enum-known-answer c = search needs
-
 returns-2 : tie.Need-returns-2
 returns-2 c = by-refusal (c .before .before .before .before .before .args .w) (c .before .answer .given .0 .0) (c .before .before .before .before .if1 .left) (c .before .answer .given .1)
 
-enum-told : tie.Need-enum-told
-enum-told c = search needs
-
-entry-at-requires : tie.Need-entry-at-requires
-entry-at-requires c κs = search needs
-
-enum-known-e : tie.Need-enum-known-e
-enum-known-e c = search needs
-
 returns-3 : tie.Need-returns-3
 returns-3 c = by-entry (c .before .before .before .before .before .before .before .before .args .w) (Is (c .before .e .given .0 .0)) (c .before .before .before .before .before .before .before .if1 .left) (c .before .before .before .before .enum-told .given .1) (sym (c .before .e .given .1) ∙ c .before .before .before .entry-at .ensures)
-
-enum-told-2 : tie.Need-enum-told-2
-enum-told-2 c = search needs
 
 returns-4 : tie.Need-returns-4
 returns-4 c = by-entry (c .before .before .before .before .before .before .before .args .w) Past (c .before .before .before .before .before .before .if1 .left) (c .before .before .before .enum-told .given .1) (sym (c .enum-told2 .given .1) ∙ c .before .before .entry-at .ensures)
 
 pub shows-spec : {M : Type 1} → statement M
 shows-spec =
-    tie.close
-    (tie.spec
-    returns
-    enum-known-answer
-    returns-2
-    enum-told
-    entry-at-requires
-    enum-known-e
-    returns-3
-    enum-told-2
-    returns-4)
+    tie.close (tie.spec returns (λ c. search needs) returns-2 (λ c. search needs) (λ c κs. search needs) (λ c. search needs) returns-3
+    (λ c. search needs) returns-4)

@@ -7,12 +7,6 @@ use borrow.Author.Needs.{needs}
 use Rattle.walk.proofs.stepped.Statement.{statement}
 use Rattle.walk.proofs.stepped.Tie as tie
 
-shows-requires : tie.Need-shows-requires
-shows-requires c κs = search needs
-
-mark-shown-requires : tie.Need-mark-shown-requires
-mark-shown-requires c κs = search needs
-
 add-n : tie.Need-add-n
 add-n c =
     let k = c .before .before in
@@ -41,5 +35,4 @@ returns-3 c =
     (marked-still (x .w) (x .a) (x .b) _ (k .before .shows .ensures) (λ h. c .before .if1 .left (e ∙ h)) (λ h. c .if2 .left (e ∙ h)))
 
 pub stepped-spec : {M : Type 1} → statement M
-stepped-spec =
-    tie.close (tie.spec shows-requires mark-shown-requires add-n returns returns-2 returns-3)
+stepped-spec = tie.close (tie.spec (λ c κs. search needs) (λ c κs. search needs) add-n returns returns-2 returns-3)

@@ -4,12 +4,6 @@ use borrow.Author.Needs.{needs}
 use Rattle.words.proofs.field.Statement.{statement}
 use Rattle.words.proofs.field.Tie as tie
 
-cast-result : tie.Need-cast-result
-cast-result c = search needs
-
-add-result : tie.Need-add-result
-add-result c = search needs
-
 returns : tie.Need-returns
 returns c = rw (lt-ltb _ _ (c .if1 .taken))
 
@@ -17,4 +11,4 @@ returns-2 : tie.Need-returns-2
 returns-2 c = rw (le-ltb _ _ (c .if1 .left))
 
 pub field-spec : {M : Type 1} → statement M
-field-spec = tie.close (tie.spec cast-result add-result returns returns-2)
+field-spec = tie.close (tie.spec (λ c. search needs) (λ c. search needs) returns returns-2)

@@ -4,9 +4,6 @@ use borrow.Author.Needs.{needs}
 use Rattle.words.proofs.shown_count.Statement.{statement}
 use Rattle.words.proofs.shown_count.Tie as tie
 
-add-steps : tie.Need-add-steps
-add-steps c = search needs
-
 returns : tie.Need-returns
 returns c = rw (lt-ltb _ _ (c .if1 .taken))
 
@@ -14,4 +11,4 @@ returns-2 : tie.Need-returns-2
 returns-2 c = rw (le-ltb _ _ (c .if1 .left))
 
 pub shown-count-spec : {M : Type 1} → statement M
-shown-count-spec = tie.close (tie.spec add-steps returns returns-2)
+shown-count-spec = tie.close (tie.spec (λ c. search needs) returns returns-2)

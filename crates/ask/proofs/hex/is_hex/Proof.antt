@@ -16,20 +16,8 @@ abbrev μ-loop : tie.MeasureT-loop
 loop-holds : tie.Need-loop-holds Inv-loop μ-loop
 loop-holds c = begins (now (c .before .args .v))
 
-shared-slice-read-nibble-of : tie.Need-shared-slice-read-nibble-of Inv-loop μ-loop
-shared-slice-read-nibble-of c = search needs
-
-nibble-of-requires : tie.Need-nibble-of-requires Inv-loop μ-loop
-nibble-of-requires c κs = tt
-
 returns : tie.Need-returns Inv-loop μ-loop
 returns c = no-digit _ (c .before .before .before .before .loop .i) (c .before .before .before .before .loop .inv) (c .before .before .before .loop-test .taken) (c .before .nibble-of .ensures) (c .if1 .taken)
-
-add-i : tie.Need-add-i Inv-loop μ-loop
-add-i c = search needs
-
-loop-less : tie.Need-loop-less Inv-loop μ-loop
-loop-less c = search needs
 
 loop-again : tie.Need-loop-again Inv-loop μ-loop
 loop-again c = goes-on _ (c .before .before .before .before .loop .i) (c .before .before .before .before .loop .inv) (c .before .before .before .loop-test .taken) (c .before .nibble-of .ensures) (c .if1 .left)
@@ -39,15 +27,5 @@ returns-2 c = ends _ (c .before .loop .i) (c .before .loop .inv) (c .loop-test .
 
 pub is-hex-spec : {M : Type 1} → statement M
 is-hex-spec =
-    tie.close
-    (tie.spec
-    Inv-loop
-    μ-loop
-    loop-holds
-    shared-slice-read-nibble-of
-    nibble-of-requires
-    returns
-    add-i
-    loop-less
-    loop-again
-    returns-2)
+    tie.close (tie.spec Inv-loop μ-loop loop-holds (λ c. search needs) (λ c κs. tt) returns (λ c. search needs) (λ c. search needs)
+    loop-again returns-2)

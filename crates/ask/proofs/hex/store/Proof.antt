@@ -16,35 +16,11 @@ abbrev μ-loop : tie.MeasureT-loop
 loop-holds : tie.Need-loop-holds Inv-loop μ-loop
 loop-holds c = let a = c .before .before .args in starts (now (a .v)) (now (a .sheet)) (a .at) (c .before .before .pre .0)
 
-mul-byte-of : tie.Need-mul-byte-of Inv-loop μ-loop
-mul-byte-of c = search needs
-
-shared-slice-read-byte-of : tie.Need-shared-slice-read-byte-of Inv-loop μ-loop
-shared-slice-read-byte-of c = search needs
-
-mul-byte-of-2 : tie.Need-mul-byte-of-2 Inv-loop μ-loop
-mul-byte-of-2 c = search needs
-
-add-byte-of : tie.Need-add-byte-of Inv-loop μ-loop
-add-byte-of c = search needs
-
-shared-slice-read-byte-of-2 : tie.Need-shared-slice-read-byte-of-2 Inv-loop μ-loop
-shared-slice-read-byte-of-2 c = search needs
-
 byte-of-requires : tie.Need-byte-of-requires Inv-loop μ-loop
 byte-of-requires c κs = both-digits _ _ _ _ _ (c .before .before .before .loop .inv) (c .before .before .loop-test .taken)
 
 add-put : tie.Need-add-put Inv-loop μ-loop
 add-put c = let p = c .before .before .before .before .before .before .before .before .pre .1 in record { fits = omega arith }
-
-put-requires : tie.Need-put-requires Inv-loop μ-loop
-put-requires c κs = tt
-
-add-i : tie.Need-add-i Inv-loop μ-loop
-add-i c = search needs
-
-loop-less : tie.Need-loop-less Inv-loop μ-loop
-loop-less c = search needs
 
 loop-again : tie.Need-loop-again Inv-loop μ-loop
 loop-again c = stores-on _ _ _ _ _ (c .before .before .before .before .before .before .before .before .loop .inv) (c .before .before .before .before .before .before .before .loop-test .taken) (c .before .before .before .before .byte-of .ensures) (c .before .before .put .ensures)
@@ -57,21 +33,5 @@ returns c = stored _ _ _ _ _ (c .before .loop .inv) (c .loop-test .left)
 
 pub store-spec : {M : Type 1} → statement M
 store-spec =
-    tie.close
-    (tie.spec
-    Inv-loop
-    μ-loop
-    loop-holds
-    mul-byte-of
-    shared-slice-read-byte-of
-    mul-byte-of-2
-    add-byte-of
-    shared-slice-read-byte-of-2
-    byte-of-requires
-    add-put
-    put-requires
-    add-i
-    loop-less
-    loop-again
-    same-length
-    returns)
+    tie.close (tie.spec Inv-loop μ-loop loop-holds (λ c. search needs) (λ c. search needs) (λ c. search needs) (λ c. search needs)
+    (λ c. search needs) byte-of-requires add-put (λ c κs. tt) (λ c. search needs) (λ c. search needs) loop-again same-length returns)

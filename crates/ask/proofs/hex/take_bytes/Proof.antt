@@ -7,51 +7,19 @@ use borrow.Author.Needs.{needs}
 use Rattle.ask.proofs.hex.take_bytes.Statement.{statement}
 use Rattle.ask.proofs.hex.take_bytes.Tie as tie
 
-byte-at-requires : tie.Need-byte-at-requires
-byte-at-requires c κs = tt
-
-cast-at : tie.Need-cast-at
-cast-at c = search needs
-
-has-room-requires : tie.Need-has-room-requires
-has-room-requires c κs = search needs
-
 store-requires : tie.Need-store-requires
 store-requires c κs = room-left _ (now (c .before .before .before .before .before .before .before .args .v)) (sym (c .before .before .has-room .ensures) ∙ c .before .if1 .taken)
-
-add-put : tie.Need-add-put
-add-put c = search needs
 
 cast-put : tie.Need-cast-put
 cast-put c = let r = room-left _ (now (c .before .before .before .before .before .before .before .before .before .before .before .args .v)) (sym (c .before .before .before .before .before .before .has-room .ensures) ∙ c .before .before .before .before .before .if1 .taken) in record { fits = omega (arith, r .1) }
 
-put-requires : tie.Need-put-requires
-put-requires c κs = tt
-
-same-length : tie.Need-same-length
-same-length c = search needs
-
 returns : tie.Need-returns
 returns c = let a = c .before .before .before .before .before .before .before .before .before .before .before .before .before .before .args in bytes-stored (now (a .sheet)) (now (a .v)) (c .before .before .before .before .before .before .before .before .before .before .byte-at .ensures) (sym (c .before .before .before .before .before .before .before .before .before .has-room .ensures) ∙ c .before .before .before .before .before .before .before .before .if1 .taken) (c .before .before .before .before .before .before .store .ensures) (c .before .before .put .ensures)
-
-same-length-2 : tie.Need-same-length-2
-same-length-2 c = search needs
 
 returns-2 : tie.Need-returns-2
 returns-2 c = let a = c .before .before .before .before .before .before .args in no-bytes (now (a .sheet)) (now (a .v)) (c .before .before .byte-at .ensures) (sym (c .before .has-room .ensures) ∙ c .if1 .left)
 
 pub take-bytes-spec : {M : Type 1} → statement M
 take-bytes-spec =
-    tie.close
-    (tie.spec
-    byte-at-requires
-    cast-at
-    has-room-requires
-    store-requires
-    add-put
-    cast-put
-    put-requires
-    same-length
-    returns
-    same-length-2
-    returns-2)
+    tie.close (tie.spec (λ c κs. tt) (λ c. search needs) (λ c κs. search needs) store-requires (λ c. search needs) cast-put (λ c κs. tt)
+    (λ c. search needs) returns (λ c. search needs) returns-2)

@@ -4,15 +4,9 @@ use borrow.Author.Needs.{needs}
 use Rattle.ask.proofs.table.count_number.Statement.{statement}
 use Rattle.ask.proofs.table.count_number.Tie as tie
 
-slice-aggregate-name-number : tie.Need-slice-aggregate-name-number
-slice-aggregate-name-number c = search needs
-
-name-number-requires : tie.Need-name-number-requires
-name-number-requires c κs = tt
-
 returns : tie.Need-returns
 unfolding countNames
 returns c = c .name-number .ensures
 
 pub count-number-spec : {M : Type 1} → statement M
-count-number-spec = tie.close (tie.spec slice-aggregate-name-number name-number-requires returns)
+count-number-spec = tie.close (tie.spec (λ c. search needs) (λ c κs. tt) returns)

@@ -1,5 +1,4 @@
 -- `ask::table::kind_of` meets its contract.
-use Prim.Native.Nat.{_-_}
 use mathlib.Core.Path.{sym}
 use Rattle.ask.specs.Table.{kinds}
 use Rattle.text.proofs.Parts.{any-default}
@@ -7,12 +6,6 @@ use lib.ListN.{List·getD-eq-default}
 use borrow.Author.Needs.{needs}
 use Rattle.ask.proofs.table.kind_of.Statement.{statement}
 use Rattle.ask.proofs.table.kind_of.Tie as tie
-
-mul-result : tie.Need-mul-result
-mul-result c = search needs
-
-array-read-result : tie.Need-array-read-result
-array-read-result c = search needs
 
 returns : tie.Need-returns
 unfolding kinds
@@ -23,4 +16,4 @@ unfolding kinds
 returns-2 c = sym (List·getD-eq-default kinds 9 {n = c .before .args .k} (c .if1 .left))
 
 pub kind-of-spec : {M : Type 1} → statement M
-kind-of-spec = tie.close (tie.spec mul-result array-read-result returns returns-2)
+kind-of-spec = tie.close (tie.spec (λ c. search needs) (λ c. search needs) returns returns-2)

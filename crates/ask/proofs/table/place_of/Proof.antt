@@ -1,17 +1,10 @@
 -- `ask::table::place_of` meets its contract.
-use Prim.Native.Nat.{_-_}
 use mathlib.Core.Path.{refl, sym}
 use Rattle.ask.specs.Table.{places}
 use lib.ListN.{List·getD-eq-default}
 use borrow.Author.Needs.{needs}
 use Rattle.ask.proofs.table.place_of.Statement.{statement}
 use Rattle.ask.proofs.table.place_of.Tie as tie
-
-mul-result : tie.Need-mul-result
-mul-result c = search needs
-
-array-read-result : tie.Need-array-read-result
-array-read-result c = search needs
 
 returns : tie.Need-returns
 unfolding places
@@ -22,4 +15,4 @@ unfolding places
 returns-2 c = sym (List·getD-eq-default places 0 {n = c .before .args .k} (c .if1 .left))
 
 pub place-of-spec : {M : Type 1} → statement M
-place-of-spec = tie.close (tie.spec mul-result array-read-result returns returns-2)
+place-of-spec = tie.close (tie.spec (λ c. search needs) (λ c. search needs) returns returns-2)

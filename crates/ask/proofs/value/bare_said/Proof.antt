@@ -7,14 +7,8 @@ use Rattle.ask.proofs.value.bare_said.Tie as tie
 returns : tie.Need-returns
 returns c = rw (c .if1 .taken)
 
-add-wrong-by : tie.Need-add-wrong-by
-add-wrong-by c = search needs
-
-wrong-by-requires : tie.Need-wrong-by-requires
-wrong-by-requires c κs = tt
-
 returns-2 : tie.Need-returns-2
 returns-2 c = rw (ne-eqb _ _ (c .before .if1 .left)) (c .wrong-by .ensures)
 
 pub bare-said-spec : {M : Type 1} → statement M
-bare-said-spec = tie.close (tie.spec returns add-wrong-by wrong-by-requires returns-2)
+bare-said-spec = tie.close (tie.spec returns (λ c. search needs) (λ c κs. tt) returns-2)

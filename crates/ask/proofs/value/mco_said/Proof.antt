@@ -1,7 +1,7 @@
 -- `ask::value::mco_said` meets its contract.
 use borrow.Author.Tests.{lt-ltb, le-ltb, eq-eqb, ne-eqb}
 use denote.Ref.{now}
-use Prim.Native.Nat.{_+_, _-_}
+use Prim.Native.Nat.{_+_}
 use native.Mathlib.Omega.{arith}
 use Rattle.ask.specs.Words.{mcoSaid}
 use Rattle.text.proofs.Parts.{within}
@@ -10,15 +10,9 @@ use borrow.Author.Needs.{needs}
 use Rattle.ask.proofs.value.mco_said.Statement.{statement}
 use Rattle.ask.proofs.value.mco_said.Tie as tie
 
-wrong-by-requires : tie.Need-wrong-by-requires
-wrong-by-requires c κs = tt
-
 returns : tie.Need-returns
 unfolding mcoSaid
 returns c = rw (le-ltb _ _ (c .before .if1 .taken)) (c .wrong-by .ensures)
-
-cast-code : tie.Need-cast-code
-cast-code c = search needs
 
 returns-2 : tie.Need-returns-2
 unfolding mcoSaid
@@ -33,31 +27,11 @@ sub-hertz c = let a = c .before .before .before .args in within 58 (now (a .valu
 part-hertz-start : tie.Need-part-hertz-start
 part-hertz-start c = let a = c .before .before .before .args in within 58 (now (a .value)) (a .colon) (c .before .before .before .pre .1) (c .if2 .left)
 
-part-hertz-end : tie.Need-part-hertz-end
-part-hertz-end c = search needs
-
-hertz-requires : tie.Need-hertz-requires
-hertz-requires c κs = tt
-
-mco-hertz-requires : tie.Need-mco-hertz-requires
-mco-hertz-requires c κs = tt
-
 returns-3 : tie.Need-returns-3
 unfolding mcoSaid
 returns-3 c = let a = c .before .before .before .before .before .before .args in rw (lt-ltb _ _ (c .before .before .before .before .if1 .left), ← c .before .before .before .before .before .before .pre .1, ne-eqb _ _ (c .before .before .before .if2 .left)) (rw (c .before .hertz .ensures, part-to-end (now (a .value)) (a .colon + 1)) at (c .mco-hertz .ensures))
 
 pub mco-said-spec : {M : Type 1} → statement M
 mco-said-spec =
-    tie.close
-    (tie.spec
-    wrong-by-requires
-    returns
-    cast-code
-    returns-2
-    add-from
-    sub-hertz
-    part-hertz-start
-    part-hertz-end
-    hertz-requires
-    mco-hertz-requires
-    returns-3)
+    tie.close (tie.spec (λ c κs. tt) returns (λ c. search needs) returns-2 add-from sub-hertz part-hertz-start (λ c. search needs)
+    (λ c κs. tt) (λ c κs. tt) returns-3)

@@ -1,7 +1,7 @@
 -- `ask::value::said_by` meets its contract.
 use borrow.Author.Tests.{eq-eqb, ne-eqb}
 use denote.Ref.{now}
-use Prim.Native.Nat.{_+_, _-_}
+use Prim.Native.Nat.{_+_}
 use native.Mathlib.Omega.{arith}
 use Rattle.ask.specs.Words.{saidBy}
 use Rattle.text.proofs.Parts.{within}
@@ -10,12 +10,6 @@ use borrow.Rule.Slice.PartAt.{part-to-end}
 use borrow.Author.Needs.{needs}
 use Rattle.ask.proofs.value.said_by.Statement.{statement}
 use Rattle.ask.proofs.value.said_by.Tie as tie
-
-kind-of-requires : tie.Need-kind-of-requires
-kind-of-requires c κs = tt
-
-place-of-requires : tie.Need-place-of-requires
-place-of-requires c κs = tt
 
 bare-said-requires : tie.Need-bare-said-requires
 bare-said-requires c κs = rw (c .before .before .kind-of .ensures) (kind-at-most _)
@@ -33,9 +27,6 @@ sub-value-said c = let a = c .before .before .before .before .args in within 61 
 part-value-said-start : tie.Need-part-value-said-start
 part-value-said-start c = let a = c .before .before .before .before .args in within 61 (now (a .word)) (a .sign) (c .before .before .before .before .pre .0) (c .if1 .left)
 
-part-value-said-end : tie.Need-part-value-said-end
-part-value-said-end c = search needs
-
 value-said-requires : tie.Need-value-said-requires
 value-said-requires c κs = rw (c .before .before .before .kind-of .ensures) (kind-at-most _)
 
@@ -45,15 +36,5 @@ returns-2 c = let a = c .before .before .before .before .before .before .args in
 
 pub said-by-spec : {M : Type 1} → statement M
 said-by-spec =
-    tie.close
-    (tie.spec
-    kind-of-requires
-    place-of-requires
-    bare-said-requires
-    returns
-    add-from
-    sub-value-said
-    part-value-said-start
-    part-value-said-end
-    value-said-requires
-    returns-2)
+    tie.close (tie.spec (λ c κs. tt) (λ c κs. tt) bare-said-requires returns add-from sub-value-said part-value-said-start
+    (λ c. search needs) value-said-requires returns-2)

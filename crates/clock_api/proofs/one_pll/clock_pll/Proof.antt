@@ -17,24 +17,12 @@ returns-2 c =
     let a = c .before .before .before .before .args in
     no-code (a .odd) (a .source) (partRead (partOf (now (a .part)))) (now (a .out)) (c .before .if1 .left) (c .if2 .taken)
 
-read-part-requires : tie.Need-read-part-requires
-read-part-requires c κs = search needs
-
 returns-3 : tie.Need-returns-3
 returns-3 c =
     let s = c .before .before in
     let a = s .before .before .before .before .before .args in
     rw (← s .read-part .ensures)
     (no-part (a .odd) (a .source) _ (now (a .out)) (s .before .before .if1 .left) (s .before .if2 .left) (not-true _ (c .if3 .taken)))
-
-plan-pll-requires : tie.Need-plan-pll-requires
-plan-pll-requires c κs = search needs
-
-stored-requires : tie.Need-stored-requires
-stored-requires c κs = search needs
-
-same-length : tie.Need-same-length
-same-length c = search needs
 
 returns-4 : tie.Need-returns-4
 returns-4 c =
@@ -47,13 +35,5 @@ returns-4 c =
 
 pub clock-pll-spec : {M : Type 1} → statement M
 clock-pll-spec =
-    tie.close
-    (tie.spec
-    returns
-    returns-2
-    read-part-requires
-    returns-3
-    plan-pll-requires
-    stored-requires
-    same-length
+    tie.close (tie.spec returns returns-2 (λ c κs. search needs) returns-3 (λ c κs. search needs) (λ c κs. search needs) (λ c. search needs)
     returns-4)

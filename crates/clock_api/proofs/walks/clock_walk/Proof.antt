@@ -3,17 +3,8 @@ use borrow.Author.Needs.{needs}
 use Rattle.clock_api.proofs.walks.clock_walk.Statement.{statement}
 use Rattle.clock_api.proofs.walks.clock_walk.Tie as tie
 
-asked-requires : tie.Need-asked-requires
-asked-requires c κs = search needs
-
-run-requires : tie.Need-run-requires
-run-requires c κs = search needs
-
-same-length : tie.Need-same-length
-same-length c = search needs
-
 returns : tie.Need-returns
 returns c = rw (← c .before .before .before .before .asked .ensures) (c .before .before .run .ensures)
 
 pub clock-walk-spec : {M : Type 1} → statement M
-clock-walk-spec = tie.close (tie.spec asked-requires run-requires same-length returns)
+clock-walk-spec = tie.close (tie.spec (λ c κs. search needs) (λ c κs. search needs) (λ c. search needs) returns)

@@ -4,39 +4,13 @@ use borrow.Author.Needs.{needs}
 use Rattle.clock_leaves.proofs.prescalers.bus.Statement.{statement}
 use Rattle.clock_leaves.proofs.prescalers.bus.Tie as tie
 
-enum-known-x : tie.Need-enum-known-x
-enum-known-x c = search needs
-
-number-of-requires : tie.Need-number-of-requires
-number-of-requires c κs = search needs
-
-enum-known-x-2 : tie.Need-enum-known-x-2
-enum-known-x-2 c = search needs
-
-slice-write-out : tie.Need-slice-write-out
-slice-write-out c = search needs
-
-slice-write-out-2 : tie.Need-slice-write-out-2
-slice-write-out-2 c = search needs
-
 returns : tie.Need-returns
 returns c = rw (c .before .before .x .given .1) (c .number-of .ensures, refl)
-
-same-length : tie.Need-same-length
-same-length c = search needs
 
 returns-2 : tie.Need-returns-2
 returns-2 c = rw (c .before .x2 .given .1) (refl, refl)
 
 pub bus-spec : {M : Type 1} → statement M
 bus-spec =
-    tie.close
-    (tie.spec
-    enum-known-x
-    number-of-requires
-    enum-known-x-2
-    slice-write-out
-    slice-write-out-2
-    returns
-    same-length
-    returns-2)
+    tie.close (tie.spec (λ c. search needs) (λ c κs. search needs) (λ c. search needs) (λ c. search needs) (λ c. search needs) returns
+    (λ c. search needs) returns-2)

@@ -1,27 +1,17 @@
 -- `clock_leaves::prescalers::clock_ahb` meets its contract.
 use denote.Ref.{now}
 use lib.ListN.{length}
-use mathlib.Core.Path.{sym, _∙_, ap}
+use mathlib.Core.Path.{refl, sym, _∙_, ap}
 use borrow.Author.Tests.{not-true, not-false}
 use Rattle.rules.specs.Document01.Buses.{ahbOf}
-use Rattle.prescaler.specs.Prescaler.{busAnswer}
-use Rattle.clock_leaves.specs.Leaves.{hertzIn}
-use Rattle.clock_leaves.proofs.Leaf.{bus-kept, bus-there, fits-length}
+use Rattle.clock_leaves.specs.Leaves.{hertzIn, busRoom}
+use Rattle.clock_leaves.proofs.Leaf.{kept, answers, fits-length}
 use borrow.Author.Needs.{needs}
 use Rattle.clock_leaves.proofs.prescalers.clock_ahb.Statement.{statement}
 use Rattle.clock_leaves.proofs.prescalers.clock_ahb.Tie as tie
 
-fits-requires : tie.Need-fits-requires
-fits-requires c κs = search needs
-
 returns : tie.Need-returns
-returns c = bus-kept _ _ (now (c .before .before .before .args .out)) (sym (c .before .fits2 .ensures) ∙ not-true _ (c .if1 .taken))
-
-hertz-in-requires : tie.Need-hertz-in-requires
-hertz-in-requires c κs = search needs
-
-ahb-requires : tie.Need-ahb-requires
-ahb-requires c κs = search needs
+returns c = kept busRoom (λ x r. refl) _ _ (now (c .before .before .before .args .out)) (sym (c .before .fits2 .ensures) ∙ not-true _ (c .if1 .taken))
 
 bus-requires : tie.Need-bus-requires
 bus-requires c κs =
@@ -29,20 +19,10 @@ bus-requires c κs =
     let a = s .before .before .args in
     fits-length (a .set) 2 (length (now (a .out))) (s .fits2 .ensures) (not-false _ (c .before .before .before .if1 .left))
 
-same-length : tie.Need-same-length
-same-length c = search needs
-
 returns-2 : tie.Need-returns-2
-returns-2 c = bus-there _ (busAnswer (ahbOf (c .before .before .before .before .before .before .before .before .before .args .system) (hertzIn (c .before .before .before .before .before .before .before .before .before .args .set) (c .before .before .before .before .before .before .before .before .before .args .hertz)))) (now (c .before .before .before .before .before .before .before .before .before .args .out)) (sym (c .before .before .before .before .before .before .before .fits2 .ensures) ∙ not-false _ (c .before .before .before .before .before .before .if1 .left)) (c .before .before .before .before .ahb .ensures ∙ ap (λ z. busAnswer (ahbOf (c .before .before .before .before .before .before .before .before .before .args .system) z)) (c .before .before .before .before .before .hertz-in .ensures)) (c .before .before .bus .ensures)
+returns-2 c = answers busRoom (λ x r. refl) _ (ahbOf (c .before .before .before .before .before .before .before .before .before .args .system) (hertzIn (c .before .before .before .before .before .before .before .before .before .args .set) (c .before .before .before .before .before .before .before .before .before .args .hertz))) (now (c .before .before .before .before .before .before .before .before .before .args .out)) (sym (c .before .before .before .before .before .before .before .fits2 .ensures) ∙ not-false _ (c .before .before .before .before .before .before .if1 .left)) (c .before .before .before .before .ahb .ensures ∙ ap (λ z. ahbOf (c .before .before .before .before .before .before .before .before .before .args .system) z) (c .before .before .before .before .before .hertz-in .ensures)) (c .before .before .bus .ensures)
 
 pub clock-ahb-spec : {M : Type 1} → statement M
 clock-ahb-spec =
-    tie.close
-    (tie.spec
-    fits-requires
-    returns
-    hertz-in-requires
-    ahb-requires
-    bus-requires
-    same-length
+    tie.close (tie.spec (λ c κs. search needs) returns (λ c κs. search needs) (λ c κs. search needs) bus-requires (λ c. search needs)
     returns-2)

@@ -8,18 +8,6 @@ use Rattle.clock_leaves.proofs.steps.clock_flash.Tie as tie
 returns : tie.Need-returns
 returns c = no-clock _ _ (c .if1 .taken)
 
-wait-states-requires : tie.Need-wait-states-requires
-wait-states-requires c κs = search needs
-
-wait-states-requires-2 : tie.Need-wait-states-requires-2
-wait-states-requires-2 c κs = search needs
-
-wait-states-requires-3 : tie.Need-wait-states-requires-3
-wait-states-requires-3 c κs = search needs
-
-wait-states-requires-4 : tie.Need-wait-states-requires-4
-wait-states-requires-4 c κs = search needs
-
 returns-2 : tie.Need-returns-2
 returns-2 c = by-scale _ _ 0 _ (c .before .before .if1 .left) (omega arith) (omega arith) (c .wait-states .ensures)
 
@@ -36,4 +24,6 @@ returns-6 : tie.Need-returns-6
 returns-6 c = no-scale _ _ (omega arith)
 
 pub clock-flash-spec : {M : Type 1} → statement M
-clock-flash-spec = tie.close (tie.spec returns wait-states-requires wait-states-requires-2 wait-states-requires-3 wait-states-requires-4 returns-2 returns-3 returns-4 returns-5 returns-6)
+clock-flash-spec =
+    tie.close (tie.spec returns (λ c κs. search needs) (λ c κs. search needs) (λ c κs. search needs) (λ c κs. search needs) returns-2
+    returns-3 returns-4 returns-5 returns-6)

@@ -3,18 +3,6 @@ use borrow.Author.Needs.{needs}
 use Rattle.clock_leaves.proofs.steps.clock_fracn.Statement.{statement}
 use Rattle.clock_leaves.proofs.steps.clock_fracn.Tie as tie
 
-fracn-for-requires : tie.Need-fracn-for-requires
-fracn-for-requires c κs = search needs
-
-enum-known-f : tie.Need-enum-known-f
-enum-known-f c = search needs
-
-cast-result : tie.Need-cast-result
-cast-result c = search needs
-
-enum-told : tie.Need-enum-told
-enum-told c = search needs
-
 returns : tie.Need-returns
 returns c = rw (← c .before .before .before .fracn-for .ensures .1, c .before .f .given .1)
 
@@ -22,5 +10,4 @@ returns-2 : tie.Need-returns-2
 returns-2 c = rw (← c .before .before .fracn-for .ensures .1, c .enum-told .given .1)
 
 pub clock-fracn-spec : {M : Type 1} → statement M
-clock-fracn-spec =
-    tie.close (tie.spec fracn-for-requires enum-known-f cast-result enum-told returns returns-2)
+clock-fracn-spec = tie.close (tie.spec (λ c κs. search needs) (λ c. search needs) (λ c. search needs) (λ c. search needs) returns returns-2)

@@ -4,12 +4,6 @@ use borrow.Author.Needs.{needs}
 use Rattle.clock_leaves.proofs.steps.clock_vco.Statement.{statement}
 use Rattle.clock_leaves.proofs.steps.clock_vco.Tie as tie
 
-cast-calc-vco-ck : tie.Need-cast-calc-vco-ck
-cast-calc-vco-ck c = search needs
-
-calc-vco-ck-requires : tie.Need-calc-vco-ck-requires
-calc-vco-ck-requires c κs = search needs
-
 returns : tie.Need-returns
 returns c = rw (lt-ltb _ _ (c .before .if1 .taken)) (c .calc-vco-ck .ensures .1)
 
@@ -17,4 +11,4 @@ returns-2 : tie.Need-returns-2
 returns-2 c = rw (le-ltb _ _ (c .if1 .left))
 
 pub clock-vco-spec : {M : Type 1} → statement M
-clock-vco-spec = tie.close (tie.spec cast-calc-vco-ck calc-vco-ck-requires returns returns-2)
+clock-vco-spec = tie.close (tie.spec (λ c. search needs) (λ c κs. search needs) returns returns-2)

@@ -8,9 +8,6 @@ use Rattle.flash.proofs.Small.{small-waits}
 use Rattle.clock_leaves.proofs.steps.wait_states.Statement.{statement}
 use Rattle.clock_leaves.proofs.steps.wait_states.Tie as tie
 
-flash-setup-requires : tie.Need-flash-setup-requires
-flash-setup-requires c κs = search needs
-
 mul-result : tie.Need-mul-result
 mul-result c =
     let a = c .before .before .args in
@@ -29,4 +26,4 @@ returns : tie.Need-returns
 returns c = ap packed (c .before .before .flash-setup .ensures)
 
 pub wait-states-spec : {M : Type 1} → statement M
-wait-states-spec = tie.close (tie.spec flash-setup-requires mul-result add-result returns)
+wait-states-spec = tie.close (tie.spec (λ c κs. search needs) mul-result add-result returns)

@@ -3,17 +3,8 @@ use borrow.Author.Needs.{needs}
 use Rattle.config.proofs.fills.like.Statement.{statement}
 use Rattle.config.proofs.fills.like.Tie as tie
 
-enum-told : tie.Need-enum-told
-enum-told c = search needs
-
-enum-known-p : tie.Need-enum-known-p
-enum-known-p c = search needs
-
-returns : tie.Need-returns
-returns c = search needs
-
 returns-2 : tie.Need-returns-2
 returns-2 c = rw (c .before .p .given .1)
 
 pub like-spec : {M : Type 1} → statement M
-like-spec = tie.close (tie.spec enum-told enum-known-p returns returns-2)
+like-spec = tie.close (tie.spec (λ c. search needs) (λ c. search needs) (λ c. search needs) returns-2)

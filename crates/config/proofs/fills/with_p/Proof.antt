@@ -6,8 +6,5 @@ use Rattle.config.proofs.fills.with_p.Tie as tie
 returns : tie.Need-returns
 returns c = rw (c .if1 .taken)
 
-returns-2 : tie.Need-returns-2
-returns-2 c = search needs
-
 pub with-p-spec : {M : Type 1} → statement M
-with-p-spec = tie.close (tie.spec returns returns-2)
+with-p-spec = tie.close (tie.spec returns (λ c. search needs))

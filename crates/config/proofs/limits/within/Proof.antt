@@ -3,17 +3,8 @@ use borrow.Author.Needs.{needs}
 use Rattle.config.proofs.limits.within.Statement.{statement}
 use Rattle.config.proofs.limits.within.Tie as tie
 
-enum-told : tie.Need-enum-told
-enum-told c = search needs
-
-enum-known-h : tie.Need-enum-known-h
-enum-known-h c = search needs
-
-returns : tie.Need-returns
-returns c = search needs
-
 returns-2 : tie.Need-returns-2
 returns-2 c = rw (c .before .h .given .1)
 
 pub within-spec : {M : Type 1} → statement M
-within-spec = tie.close (tie.spec enum-told enum-known-h returns returns-2)
+within-spec = tie.close (tie.spec (λ c. search needs) (λ c. search needs) (λ c. search needs) returns-2)

@@ -3,27 +3,11 @@ use borrow.Author.Needs.{needs}
 use Rattle.core_clocks.proofs.apb.from_ahb.Statement.{statement}
 use Rattle.core_clocks.proofs.apb.from_ahb.Tie as tie
 
-enum-known-answer : tie.Need-enum-known-answer
-enum-known-answer c = search needs
-
 returns : tie.Need-returns
 returns c = rw (c .before .answer .given .1)
-
-enum-known-answer-2 : tie.Need-enum-known-answer-2
-enum-known-answer-2 c = search needs
-
-apbs-requires : tie.Need-apbs-requires
-apbs-requires c κs = search needs
 
 returns-2 : tie.Need-returns-2
 returns-2 c = rw (c .before .before .answer2 .given .1) (c .apbs .ensures)
 
 pub from-ahb-spec : {M : Type 1} → statement M
-from-ahb-spec =
-    tie.close
-    (tie.spec
-    enum-known-answer
-    returns
-    enum-known-answer-2
-    apbs-requires
-    returns-2)
+from-ahb-spec = tie.close (tie.spec (λ c. search needs) returns (λ c. search needs) (λ c κs. search needs) returns-2)

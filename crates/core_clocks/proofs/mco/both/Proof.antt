@@ -3,35 +3,14 @@ use borrow.Author.Needs.{needs}
 use Rattle.core_clocks.proofs.mco.both.Statement.{statement}
 use Rattle.core_clocks.proofs.mco.both.Tie as tie
 
-enum-known-first : tie.Need-enum-known-first
-enum-known-first c = search needs
-
 returns : tie.Need-returns
 returns c = rw (c .before .first .given .1)
 
-enum-known-first-2 : tie.Need-enum-known-first-2
-enum-known-first-2 c = search needs
-
-enum-known-second : tie.Need-enum-known-second
-enum-known-second c = search needs
-
 returns-2 : tie.Need-returns-2
 returns-2 c = rw (c .before .before .before .before .first2 .given .1, c .before .second .given .1)
-
-enum-known-second-2 : tie.Need-enum-known-second-2
-enum-known-second-2 c = search needs
 
 returns-3 : tie.Need-returns-3
 returns-3 c = rw (c .before .before .before .before .first2 .given .1, c .before .second2 .given .1)
 
 pub both-spec : {M : Type 1} → statement M
-both-spec =
-    tie.close
-    (tie.spec
-    enum-known-first
-    returns
-    enum-known-first-2
-    enum-known-second
-    returns-2
-    enum-known-second-2
-    returns-3)
+both-spec = tie.close (tie.spec (λ c. search needs) returns (λ c. search needs) (λ c. search needs) returns-2 (λ c. search needs) returns-3)

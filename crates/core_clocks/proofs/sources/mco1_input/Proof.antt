@@ -4,42 +4,21 @@ use borrow.Author.Needs.{needs}
 use Rattle.core_clocks.proofs.sources.mco1_input.Statement.{statement}
 use Rattle.core_clocks.proofs.sources.mco1_input.Tie as tie
 
-enum-told : tie.Need-enum-told
-enum-told c = search needs
-
 returns : tie.Need-returns
 unfolding mco1Input
 returns c = rw (c .enum-told .given .1)
-
-enum-told-2 : tie.Need-enum-told-2
-enum-told-2 c = search needs
 
 returns-2 : tie.Need-returns-2
 unfolding mco1Input
 returns-2 c = rw (c .enum-told2 .given .1)
 
-enum-told-3 : tie.Need-enum-told-3
-enum-told-3 c = search needs
-
-hertz-or-0-requires : tie.Need-hertz-or-0-requires
-hertz-or-0-requires c κs = search needs
-
 returns-3 : tie.Need-returns-3
 unfolding mco1Input
 returns-3 c = rw (c .before .enum-told3 .given .1, c .hertz-or-0 .ensures)
 
-enum-told-4 : tie.Need-enum-told-4
-enum-told-4 c = search needs
-
-planned-requires : tie.Need-planned-requires
-planned-requires c κs = search needs
-
 returns-4 : tie.Need-returns-4
 unfolding mco1Input
 returns-4 c = rw (c .before .enum-told4 .given .1) (c .planned .ensures)
-
-enum-told-5 : tie.Need-enum-told-5
-enum-told-5 c = search needs
 
 returns-5 : tie.Need-returns-5
 unfolding mco1Input
@@ -47,17 +26,5 @@ returns-5 c = rw (c .enum-told5 .given .1)
 
 pub mco1-input-spec : {M : Type 1} → statement M
 mco1-input-spec =
-    tie.close
-    (tie.spec
-    enum-told
-    returns
-    enum-told-2
-    returns-2
-    enum-told-3
-    hertz-or-0-requires
-    returns-3
-    enum-told-4
-    planned-requires
-    returns-4
-    enum-told-5
-    returns-5)
+    tie.close (tie.spec (λ c. search needs) returns (λ c. search needs) returns-2 (λ c. search needs) (λ c κs. search needs) returns-3
+    (λ c. search needs) (λ c κs. search needs) returns-4 (λ c. search needs) returns-5)

@@ -4,52 +4,25 @@ use borrow.Author.Needs.{needs}
 use Rattle.core_clocks.proofs.sources.mco2_input.Statement.{statement}
 use Rattle.core_clocks.proofs.sources.mco2_input.Tie as tie
 
-enum-told : tie.Need-enum-told
-enum-told c = search needs
-
 returns : tie.Need-returns
 unfolding mco2Input
 returns c = rw (c .enum-told .given .1)
-
-enum-told-2 : tie.Need-enum-told-2
-enum-told-2 c = search needs
-
-planned-requires : tie.Need-planned-requires
-planned-requires c κs = search needs
 
 returns-2 : tie.Need-returns-2
 unfolding mco2Input
 returns-2 c = rw (c .before .enum-told2 .given .1) (c .planned .ensures)
 
-enum-told-3 : tie.Need-enum-told-3
-enum-told-3 c = search needs
-
-hertz-or-0-requires : tie.Need-hertz-or-0-requires
-hertz-or-0-requires c κs = search needs
-
 returns-3 : tie.Need-returns-3
 unfolding mco2Input
 returns-3 c = rw (c .before .enum-told3 .given .1, c .hertz-or-0 .ensures)
-
-enum-told-4 : tie.Need-enum-told-4
-enum-told-4 c = search needs
-
-planned-requires-2 : tie.Need-planned-requires-2
-planned-requires-2 c κs = search needs
 
 returns-4 : tie.Need-returns-4
 unfolding mco2Input
 returns-4 c = rw (c .before .enum-told4 .given .1) (c .planned2 .ensures)
 
-enum-told-5 : tie.Need-enum-told-5
-enum-told-5 c = search needs
-
 returns-5 : tie.Need-returns-5
 unfolding mco2Input
 returns-5 c = rw (c .enum-told5 .given .1)
-
-enum-told-6 : tie.Need-enum-told-6
-enum-told-6 c = search needs
 
 returns-6 : tie.Need-returns-6
 unfolding mco2Input
@@ -57,20 +30,6 @@ returns-6 c = rw (c .enum-told6 .given .1)
 
 pub mco2-input-spec : {M : Type 1} → statement M
 mco2-input-spec =
-    tie.close
-    (tie.spec
-    enum-told
-    returns
-    enum-told-2
-    planned-requires
-    returns-2
-    enum-told-3
-    hertz-or-0-requires
-    returns-3
-    enum-told-4
-    planned-requires-2
-    returns-4
-    enum-told-5
-    returns-5
-    enum-told-6
+    tie.close (tie.spec (λ c. search needs) returns (λ c. search needs) (λ c κs. search needs) returns-2 (λ c. search needs)
+    (λ c κs. search needs) returns-3 (λ c. search needs) (λ c κs. search needs) returns-4 (λ c. search needs) returns-5 (λ c. search needs)
     returns-6)

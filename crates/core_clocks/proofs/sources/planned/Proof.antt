@@ -3,12 +3,6 @@ use borrow.Author.Needs.{needs}
 use Rattle.core_clocks.proofs.sources.planned.Statement.{statement}
 use Rattle.core_clocks.proofs.sources.planned.Tie as tie
 
-enum-told : tie.Need-enum-told
-enum-told c = search needs
-
-enum-known-h : tie.Need-enum-known-h
-enum-known-h c = search needs
-
 returns : tie.Need-returns
 returns c = rw (c .enum-told .given .1)
 
@@ -16,4 +10,4 @@ returns-2 : tie.Need-returns-2
 returns-2 c = rw (c .before .h .given .1)
 
 pub planned-spec : {M : Type 1} → statement M
-planned-spec = tie.close (tie.spec enum-told enum-known-h returns returns-2)
+planned-spec = tie.close (tie.spec (λ c. search needs) (λ c. search needs) returns returns-2)

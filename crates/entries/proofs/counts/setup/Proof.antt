@@ -5,18 +5,6 @@ use native.Mathlib.Omega.{arith}
 use Rattle.entries.proofs.counts.setup.Statement.{statement}
 use Rattle.entries.proofs.counts.setup.Tie as tie
 
-pll-requires : tie.Need-pll-requires
-pll-requires c κs = search needs
-
-enum-told : tie.Need-enum-told
-enum-told c = search needs
-
-enum-known-x : tie.Need-enum-known-x
-enum-known-x c = search needs
-
-setting-requires : tie.Need-setting-requires
-setting-requires c κs = search needs
-
 returns : tie.Need-returns
 returns c = rw (← c .before .before .pll .ensures, c .enum-told .given .1) (refl, omega arith)
 
@@ -24,6 +12,4 @@ returns-2 : tie.Need-returns-2
 returns-2 c = rw (← c .before .before .before .before .pll .ensures, c .before .before .x .given .1) (c .setting .ensures)
 
 pub setup-spec : {M : Type 1} → statement M
-setup-spec =
-    tie.close
-    (tie.spec pll-requires enum-told enum-known-x setting-requires returns returns-2)
+setup-spec = tie.close (tie.spec (λ c κs. search needs) (λ c. search needs) (λ c. search needs) (λ c κs. search needs) returns returns-2)

@@ -6,24 +6,6 @@ use Rattle.entries.proofs.Placed.{past}
 use Rattle.entries.proofs.places.base_at.Statement.{statement}
 use Rattle.entries.proofs.places.base_at.Tie as tie
 
-mul-at : tie.Need-mul-at
-mul-at c = search needs
-
-add-t9 : tie.Need-add-t9
-add-t9 c = search needs
-
-add-t10 : tie.Need-add-t10
-add-t10 c = search needs
-
-add-t11 : tie.Need-add-t11
-add-t11 c = search needs
-
-add-t12 : tie.Need-add-t12
-add-t12 c = search needs
-
-less-one-requires : tie.Need-less-one-requires
-less-one-requires c κs = search needs
-
 returns : tie.Need-returns
 returns c = rw (c .match .keys1)
 
@@ -41,16 +23,5 @@ returns-5 c = past (baseOf (c .before .args .j) (c .before .args .vcosel) (c .be
 
 pub base-at-spec : {M : Type 1} → statement M
 base-at-spec =
-    tie.close
-    (tie.spec
-    mul-at
-    add-t9
-    add-t10
-    add-t11
-    add-t12
-    less-one-requires
-    returns
-    returns-2
-    returns-3
-    returns-4
-    returns-5)
+    tie.close (tie.spec (λ c. search needs) (λ c. search needs) (λ c. search needs) (λ c. search needs) (λ c. search needs)
+    (λ c κs. search needs) returns returns-2 returns-3 returns-4 returns-5)

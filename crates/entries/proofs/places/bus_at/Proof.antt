@@ -1,55 +1,54 @@
 -- `entries::places::bus_at` meets its contract.
 use native.Mathlib.Omega.{arith}
-use Rattle.fields.specs.Segments.{busList}
+use Rattle.rules.specs.Document01.Entries.{busEntries}
 use Rattle.entries.proofs.Placed.{ended, above}
 use Rattle.entries.proofs.places.bus_at.Statement.{statement}
 use Rattle.entries.proofs.places.bus_at.Tie as tie
 
 returns : tie.Need-returns
+unfolding busEntries
 returns c = rw (c .match .keys1)
 
 returns-2 : tie.Need-returns-2
+unfolding busEntries
 returns-2 c = rw (c .match .keys2)
 
 returns-3 : tie.Need-returns-3
+unfolding busEntries
 returns-3 c = rw (c .match .keys3)
 
 returns-4 : tie.Need-returns-4
+unfolding busEntries
 returns-4 c = rw (c .match .keys4)
 
 returns-5 : tie.Need-returns-5
+unfolding busEntries
 returns-5 c = rw (c .match .keys5)
 
 returns-6 : tie.Need-returns-6
+unfolding busEntries
 returns-6 c = rw (c .match .keys6)
 
 returns-7 : tie.Need-returns-7
+unfolding busEntries
 returns-7 c = rw (c .match .keys7)
 
 returns-8 : tie.Need-returns-8
+unfolding busEntries
 returns-8 c = rw (c .match .keys8)
 
 returns-9 : tie.Need-returns-9
+unfolding busEntries
 returns-9 c = rw (c .match .keys9)
 
 returns-10 : tie.Need-returns-10
+unfolding busEntries
 returns-10 c = rw (c .match .keys10)
 
 returns-11 : tie.Need-returns-11
-returns-11 c = ended (busList (c .before .args .hpre) (c .before .args .ppre1) (c .before .args .ppre2) (c .before .args .ppre3) (c .before .args .ckpersel) (c .before .args .sw)) (c .before .args .k) (above 9 (c .before .args .k) (above 8 (c .before .args .k) (above 7 (c .before .args .k) (above 6 (c .before .args .k) (above 5 (c .before .args .k) (above 4 (c .before .args .k) (above 3 (c .before .args .k) (above 2 (c .before .args .k) (above 1 (c .before .args .k) (above 0 (c .before .args .k) (omega arith) (c .match .rest .0 .0 .0 .0 .0 .0 .0 .0 .0 .1)) (c .match .rest .0 .0 .0 .0 .0 .0 .0 .0 .1)) (c .match .rest .0 .0 .0 .0 .0 .0 .0 .1)) (c .match .rest .0 .0 .0 .0 .0 .0 .1)) (c .match .rest .0 .0 .0 .0 .0 .1)) (c .match .rest .0 .0 .0 .0 .1)) (c .match .rest .0 .0 .0 .1)) (c .match .rest .0 .0 .1)) (c .match .rest .0 .1)) (c .match .rest .1))
+unfolding busEntries
+returns-11 c = ended (busEntries (c .before .args .b) (c .before .args .s)) (c .before .args .k) (above 9 (c .before .args .k) (above 8 (c .before .args .k) (above 7 (c .before .args .k) (above 6 (c .before .args .k) (above 5 (c .before .args .k) (above 4 (c .before .args .k) (above 3 (c .before .args .k) (above 2 (c .before .args .k) (above 1 (c .before .args .k) (above 0 (c .before .args .k) (omega arith) (c .match .rest .0 .0 .0 .0 .0 .0 .0 .0 .0 .1)) (c .match .rest .0 .0 .0 .0 .0 .0 .0 .0 .1)) (c .match .rest .0 .0 .0 .0 .0 .0 .0 .1)) (c .match .rest .0 .0 .0 .0 .0 .0 .1)) (c .match .rest .0 .0 .0 .0 .0 .1)) (c .match .rest .0 .0 .0 .0 .1)) (c .match .rest .0 .0 .0 .1)) (c .match .rest .0 .0 .1)) (c .match .rest .0 .1)) (c .match .rest .1))
 
 pub bus-at-spec : {M : Type 1} → statement M
 bus-at-spec =
-    tie.close
-    (tie.spec
-    returns
-    returns-2
-    returns-3
-    returns-4
-    returns-5
-    returns-6
-    returns-7
-    returns-8
-    returns-9
-    returns-10
-    returns-11)
+    tie.close (tie.spec returns returns-2 returns-3 returns-4 returns-5 returns-6 returns-7 returns-8 returns-9 returns-10 returns-11)

@@ -1,56 +1,52 @@
 -- `entries::places::clock_at` meets its contract.
 use native.Mathlib.Omega.{arith}
 use borrow.Author.Needs.{needs}
-use Rattle.fields.specs.Segments.{clockList}
+use Rattle.rules.specs.Document01.Entries.{clockEntries}
 use Rattle.entries.proofs.Placed.{past, above}
 use Rattle.entries.proofs.places.clock_at.Statement.{statement}
 use Rattle.entries.proofs.places.clock_at.Tie as tie
 
-prften-requires : tie.Need-prften-requires
-prften-requires c κs = search needs
-
 returns : tie.Need-returns
+unfolding clockEntries
 returns c = rw (c .match .keys1)
 
 returns-2 : tie.Need-returns-2
+unfolding clockEntries
 returns-2 c = rw (c .match .keys2)
 
 returns-3 : tie.Need-returns-3
+unfolding clockEntries
 returns-3 c = rw (c .before .match .keys3, c .prften .ensures)
 
 returns-4 : tie.Need-returns-4
+unfolding clockEntries
 returns-4 c = rw (c .match .keys4)
 
 returns-5 : tie.Need-returns-5
+unfolding clockEntries
 returns-5 c = rw (c .match .keys5)
 
 returns-6 : tie.Need-returns-6
+unfolding clockEntries
 returns-6 c = rw (c .match .keys6)
 
 returns-7 : tie.Need-returns-7
+unfolding clockEntries
 returns-7 c = rw (c .match .keys7)
 
 returns-8 : tie.Need-returns-8
+unfolding clockEntries
 returns-8 c = rw (c .match .keys8)
 
 returns-9 : tie.Need-returns-9
+unfolding clockEntries
 returns-9 c = rw (c .match .keys9)
 
 returns-10 : tie.Need-returns-10
-returns-10 c = past (clockList (c .before .args .delay) (c .before .args .latency) (c .before .args .mco1sel) (c .before .args .mco1pre) (c .before .args .mco2sel) (c .before .args .mco2pre)) (c .before .args .k) (above 8 (c .before .args .k) (above 7 (c .before .args .k) (above 6 (c .before .args .k) (above 5 (c .before .args .k) (above 4 (c .before .args .k) (above 3 (c .before .args .k) (above 2 (c .before .args .k) (above 1 (c .before .args .k) (above 0 (c .before .args .k) (omega arith) (c .match .rest .0 .0 .0 .0 .0 .0 .0 .0 .1)) (c .match .rest .0 .0 .0 .0 .0 .0 .0 .1)) (c .match .rest .0 .0 .0 .0 .0 .0 .1)) (c .match .rest .0 .0 .0 .0 .0 .1)) (c .match .rest .0 .0 .0 .0 .1)) (c .match .rest .0 .0 .0 .1)) (c .match .rest .0 .0 .1)) (c .match .rest .0 .1)) (c .match .rest .1))
+unfolding clockEntries
+returns-10 c = past (clockEntries (c .before .args .w) (c .before .args .s) (c .before .args .m)) (c .before .args .k) (above 8 (c .before .args .k) (above 7 (c .before .args .k) (above 6 (c .before .args .k) (above 5 (c .before .args .k) (above 4 (c .before .args .k) (above 3 (c .before .args .k) (above 2 (c .before .args .k) (above 1 (c .before .args .k) (above 0 (c .before .args .k) (omega arith) (c .match .rest .0 .0 .0 .0 .0 .0 .0 .0 .1)) (c .match .rest .0 .0 .0 .0 .0 .0 .0 .1)) (c .match .rest .0 .0 .0 .0 .0 .0 .1)) (c .match .rest .0 .0 .0 .0 .0 .1)) (c .match .rest .0 .0 .0 .0 .1)) (c .match .rest .0 .0 .0 .1)) (c .match .rest .0 .0 .1)) (c .match .rest .0 .1)) (c .match .rest .1))
 
 pub clock-at-spec : {M : Type 1} → statement M
 clock-at-spec =
-    tie.close
-    (tie.spec
-    prften-requires
-    returns
-    returns-2
-    returns-3
-    returns-4
-    returns-5
-    returns-6
-    returns-7
-    returns-8
-    returns-9
+    tie.close (tie.spec (λ c κs. search needs) returns returns-2 returns-3 returns-4 returns-5 returns-6 returns-7 returns-8 returns-9
     returns-10)

@@ -7,9 +7,6 @@ use Rattle.entries.proofs.Placed.{past}
 use Rattle.entries.proofs.places.hse_at.Statement.{statement}
 use Rattle.entries.proofs.places.hse_at.Tie as tie
 
-bit-of-requires : tie.Need-bit-of-requires
-bit-of-requires c κs = search needs
-
 returns : tie.Need-returns
 returns c = rw (c .before .match .keys1, c .bit-of .ensures)
 
@@ -20,4 +17,4 @@ returns-3 : tie.Need-returns-3
 returns-3 c = past (hseEntries (Hz 0) (c .before .args .bypass)) (c .before .args .k) (omega (arith, c .match .rest))
 
 pub hse-at-spec : {M : Type 1} → statement M
-hse-at-spec = tie.close (tie.spec bit-of-requires returns returns-2 returns-3)
+hse-at-spec = tie.close (tie.spec (λ c κs. search needs) returns returns-2 returns-3)

@@ -7,15 +7,6 @@ use Rattle.entries.proofs.Placed.{past}
 use Rattle.entries.proofs.places.output_at.Statement.{statement}
 use Rattle.entries.proofs.places.output_at.Tie as tie
 
-enum-told : tie.Need-enum-told
-enum-told c = search needs
-
-enum-known-o : tie.Need-enum-known-o
-enum-known-o c = search needs
-
-less-one-requires : tie.Need-less-one-requires
-less-one-requires c κs = search needs
-
 returns : tie.Need-returns
 returns c = rw (c .before .enum-told .given .1, c .match2 .keys1)
 
@@ -33,13 +24,4 @@ returns-5 c = rw (c .before .before .o .given .1) (past (outputEntries (c .befor
 
 pub output-at-spec : {M : Type 1} → statement M
 output-at-spec =
-    tie.close
-    (tie.spec
-    enum-told
-    enum-known-o
-    less-one-requires
-    returns
-    returns-2
-    returns-3
-    returns-4
-    returns-5)
+    tie.close (tie.spec (λ c. search needs) (λ c. search needs) (λ c κs. search needs) returns returns-2 returns-3 returns-4 returns-5)

@@ -10,9 +10,6 @@ use Rattle.entries.proofs.Placed.{first, later}
 use Rattle.entries.proofs.places.setting_at.Statement.{statement}
 use Rattle.entries.proofs.places.setting_at.Tie as tie
 
-base-at-requires : tie.Need-base-at-requires
-base-at-requires c κs = search needs
-
 returns : tie.Need-returns
 unfolding settingEntries
 returns c =
@@ -21,12 +18,6 @@ returns c =
     let k = c .before .before .args .k in
     first (baseEntries j s) (fromFraction j s) 4 k refl (c .before .if1 .taken)
     (c .base-at .ensures)
-
-fraction-requires : tie.Need-fraction-requires
-fraction-requires c κs = search needs
-
-fraction-at-requires : tie.Need-fraction-at-requires
-fraction-at-requires c κs = search needs
 
 returns-2 : tie.Need-returns-2
 unfolding settingEntries
@@ -38,9 +29,6 @@ returns-2 c =
     later (baseEntries j s) (fromFraction j s) 4 k refl (c .before .before .before .if1 .left)
     (first (fractionEntries j (s .fraction)) (outputsOf j (s .p) (s .q) (s .r)) (b .result) (k - 4) (b .ensures .0 ∙ fraction-length j (s .fraction)) (c .before .if2 .taken)
     (c .fraction-at .ensures))
-
-outputs-at-requires : tie.Need-outputs-at-requires
-outputs-at-requires c κs = search needs
 
 returns-3 : tie.Need-returns-3
 unfolding settingEntries
@@ -55,12 +43,5 @@ returns-3 c =
 
 pub setting-at-spec : {M : Type 1} → statement M
 setting-at-spec =
-    tie.close
-    (tie.spec
-    base-at-requires
-    returns
-    fraction-requires
-    fraction-at-requires
-    returns-2
-    outputs-at-requires
+    tie.close (tie.spec (λ c κs. search needs) returns (λ c κs. search needs) (λ c κs. search needs) returns-2 (λ c κs. search needs)
     returns-3)

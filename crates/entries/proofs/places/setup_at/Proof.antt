@@ -3,15 +3,6 @@ use borrow.Author.Needs.{needs}
 use Rattle.entries.proofs.places.setup_at.Statement.{statement}
 use Rattle.entries.proofs.places.setup_at.Tie as tie
 
-enum-told : tie.Need-enum-told
-enum-told c = search needs
-
-enum-known-x : tie.Need-enum-known-x
-enum-known-x c = search needs
-
-setting-at-requires : tie.Need-setting-at-requires
-setting-at-requires c κs = search needs
-
 returns : tie.Need-returns
 returns c = rw (c .enum-told .given .1)
 
@@ -19,6 +10,4 @@ returns-2 : tie.Need-returns-2
 returns-2 c = rw (c .before .before .x .given .1) (c .setting-at .ensures)
 
 pub setup-at-spec : {M : Type 1} → statement M
-setup-at-spec =
-    tie.close
-    (tie.spec enum-told enum-known-x setting-at-requires returns returns-2)
+setup-at-spec = tie.close (tie.spec (λ c. search needs) (λ c. search needs) (λ c κs. search needs) returns returns-2)

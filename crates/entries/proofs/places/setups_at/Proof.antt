@@ -4,37 +4,19 @@ use mathlib.Core.List.{_++_}
 use mathlib.Core.Path.{_∙_}
 use Prim.Native.Nat.{_-_}
 use Rattle.rules.specs.Document01.Entries.{setupEntries}
-use Rattle.fields.specs.Segments.{pllOf}
+use Rattle.rules.specs.Document01.OnePll.{pllFrom}
 use Rattle.entries.proofs.Counted.{setup-length}
 use Rattle.entries.proofs.Placed.{first, later}
 use Rattle.entries.proofs.places.setups_at.Statement.{statement}
 use Rattle.entries.proofs.places.setups_at.Tie as tie
-
-setup-requires : tie.Need-setup-requires
-setup-requires c κs = search needs
-
-pll-requires : tie.Need-pll-requires
-pll-requires c κs = search needs
-
-setup-at-requires : tie.Need-setup-at-requires
-setup-at-requires c κs = search needs
 
 returns : tie.Need-returns
 returns c =
     let x = c .before .before .before .before .args .plls in
     let k = c .before .before .before .before .args .k in
     let a = c .before .before .before .setup in
-    first (setupEntries 0 (pllOf x 0)) (setupEntries 1 (pllOf x 1) ++ setupEntries 2 (pllOf x 2)) (a .result) k (a .ensures .0 ∙ setup-length 0 (pllOf x 0)) (c .before .before .if1 .taken)
+    first (setupEntries 0 (pllFrom x 0)) (setupEntries 1 (pllFrom x 1) ++ setupEntries 2 (pllFrom x 2)) (a .result) k (a .ensures .0 ∙ setup-length 0 (pllFrom x 0)) (c .before .before .if1 .taken)
     (rw (← c .before .pll .ensures) (c .setup-at .ensures))
-
-setup-requires-2 : tie.Need-setup-requires-2
-setup-requires-2 c κs = search needs
-
-pll-requires-2 : tie.Need-pll-requires-2
-pll-requires-2 c κs = search needs
-
-setup-at-requires-2 : tie.Need-setup-at-requires-2
-setup-at-requires-2 c κs = search needs
 
 returns-2 : tie.Need-returns-2
 returns-2 c =
@@ -43,15 +25,9 @@ returns-2 c =
     let a = c .before .before .before .before .before .setup in
     let l = k - a .result in
     let b = c .before .before .before .setup2 in
-    later (setupEntries 0 (pllOf x 0)) (setupEntries 1 (pllOf x 1) ++ setupEntries 2 (pllOf x 2)) (a .result) k (a .ensures .0 ∙ setup-length 0 (pllOf x 0)) (c .before .before .before .before .if1 .left)
-    (first (setupEntries 1 (pllOf x 1)) (setupEntries 2 (pllOf x 2)) (b .result) l (b .ensures .0 ∙ setup-length 1 (pllOf x 1)) (c .before .before .if2 .taken)
+    later (setupEntries 0 (pllFrom x 0)) (setupEntries 1 (pllFrom x 1) ++ setupEntries 2 (pllFrom x 2)) (a .result) k (a .ensures .0 ∙ setup-length 0 (pllFrom x 0)) (c .before .before .before .before .if1 .left)
+    (first (setupEntries 1 (pllFrom x 1)) (setupEntries 2 (pllFrom x 2)) (b .result) l (b .ensures .0 ∙ setup-length 1 (pllFrom x 1)) (c .before .before .if2 .taken)
     (rw (← c .before .pll2 .ensures) (c .setup-at2 .ensures)))
-
-pll-requires-3 : tie.Need-pll-requires-3
-pll-requires-3 c κs = search needs
-
-setup-at-requires-3 : tie.Need-setup-at-requires-3
-setup-at-requires-3 c κs = search needs
 
 returns-3 : tie.Need-returns-3
 returns-3 c =
@@ -60,22 +36,11 @@ returns-3 c =
     let a = c .before .before .before .before .before .setup in
     let l = k - a .result in
     let b = c .before .before .before .setup2 in
-    later (setupEntries 0 (pllOf x 0)) (setupEntries 1 (pllOf x 1) ++ setupEntries 2 (pllOf x 2)) (a .result) k (a .ensures .0 ∙ setup-length 0 (pllOf x 0)) (c .before .before .before .before .if1 .left)
-    (later (setupEntries 1 (pllOf x 1)) (setupEntries 2 (pllOf x 2)) (b .result) l (b .ensures .0 ∙ setup-length 1 (pllOf x 1)) (c .before .before .if2 .left)
+    later (setupEntries 0 (pllFrom x 0)) (setupEntries 1 (pllFrom x 1) ++ setupEntries 2 (pllFrom x 2)) (a .result) k (a .ensures .0 ∙ setup-length 0 (pllFrom x 0)) (c .before .before .before .before .if1 .left)
+    (later (setupEntries 1 (pllFrom x 1)) (setupEntries 2 (pllFrom x 2)) (b .result) l (b .ensures .0 ∙ setup-length 1 (pllFrom x 1)) (c .before .before .if2 .left)
     (rw (← c .before .pll3 .ensures) (c .setup-at3 .ensures)))
 
 pub setups-at-spec : {M : Type 1} → statement M
 setups-at-spec =
-    tie.close
-    (tie.spec
-    setup-requires
-    pll-requires
-    setup-at-requires
-    returns
-    setup-requires-2
-    pll-requires-2
-    setup-at-requires-2
-    returns-2
-    pll-requires-3
-    setup-at-requires-3
-    returns-3)
+    tie.close (tie.spec (λ c κs. search needs) (λ c κs. search needs) (λ c κs. search needs) returns (λ c κs. search needs)
+    (λ c κs. search needs) (λ c κs. search needs) returns-2 (λ c κs. search needs) (λ c κs. search needs) returns-3)

@@ -7,18 +7,6 @@ use Rattle.entries.proofs.Placed.{past}
 use Rattle.entries.proofs.places.start_at.Statement.{statement}
 use Rattle.entries.proofs.places.start_at.Tie as tie
 
-mul-t4 : tie.Need-mul-t4
-mul-t4 c = search needs
-
-add-t5 : tie.Need-add-t5
-add-t5 c = search needs
-
-mul-t6 : tie.Need-mul-t6
-mul-t6 c = search needs
-
-add-t7 : tie.Need-add-t7
-add-t7 c = search needs
-
 returns : tie.Need-returns
 returns c = rw (c .match .keys1)
 
@@ -29,4 +17,5 @@ returns-3 : tie.Need-returns-3
 returns-3 c = past (outputStart (c .before .args .j) (On 0 0)) (c .before .args .k) (omega (arith, c .match .rest))
 
 pub start-at-spec : {M : Type 1} → statement M
-start-at-spec = tie.close (tie.spec mul-t4 add-t5 mul-t6 add-t7 returns returns-2 returns-3)
+start-at-spec =
+    tie.close (tie.spec (λ c. search needs) (λ c. search needs) (λ c. search needs) (λ c. search needs) returns returns-2 returns-3)

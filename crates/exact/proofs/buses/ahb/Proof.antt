@@ -6,12 +6,6 @@ use borrow.Author.Needs.{needs}
 use Rattle.exact.proofs.buses.ahb.Statement.{statement}
 use Rattle.exact.proofs.buses.ahb.Tie as tie
 
-sys-requires : tie.Need-sys-requires
-sys-requires c κs = search needs
-
-divided-requires : tie.Need-divided-requires
-divided-requires c κs = search needs
-
 returns : tie.Need-returns
 unfolding ahbOf
 returns c =
@@ -19,4 +13,4 @@ returns c =
     c .divided .ensures (sysOf (now (a .bank)) (fedBy (a .fed))) (c .before .sys .ensures)
 
 pub ahb-spec : {M : Type 1} → statement M
-ahb-spec = tie.close (tie.spec sys-requires divided-requires returns)
+ahb-spec = tie.close (tie.spec (λ c κs. search needs) (λ c κs. search needs) returns)

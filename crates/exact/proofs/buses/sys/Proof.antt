@@ -9,21 +9,6 @@ use borrow.Author.Needs.{needs}
 use Rattle.exact.proofs.buses.sys.Statement.{statement}
 use Rattle.exact.proofs.buses.sys.Tie as tie
 
-word-requires : tie.Need-word-requires
-word-requires c κs = search needs
-
-hsi-requires : tie.Need-hsi-requires
-hsi-requires c κs = search needs
-
-fixed-requires : tie.Need-fixed-requires
-fixed-requires c κs = search needs
-
-hse-requires : tie.Need-hse-requires
-hse-requires c κs = search needs
-
-output-requires : tie.Need-output-requires
-output-requires c κs = search needs
-
 returns : tie.Need-returns
 unfolding sysOf
 returns c = rw (← c .before .before .word .ensures, c .before .match .keys1) (c .hsi .ensures (fedBy (c .before .before .before .before .args .fed)))
@@ -48,15 +33,5 @@ returns-5 c =
 
 pub sys-spec : {M : Type 1} → statement M
 sys-spec =
-    tie.close
-    (tie.spec
-    word-requires
-    hsi-requires
-    fixed-requires
-    hse-requires
-    output-requires
-    returns
-    returns-2
-    returns-3
-    returns-4
-    returns-5)
+    tie.close (tie.spec (λ c κs. search needs) (λ c κs. search needs) (λ c κs. search needs) (λ c κs. search needs) (λ c κs. search needs)
+    returns returns-2 returns-3 returns-4 returns-5)

@@ -7,24 +7,6 @@ use borrow.Author.Needs.{needs}
 use Rattle.exact.proofs.buses.timer.Statement.{statement}
 use Rattle.exact.proofs.buses.timer.Tie as tie
 
-word-requires : tie.Need-word-requires
-word-requires c κs = search needs
-
-word-requires-2 : tie.Need-word-requires-2
-word-requires-2 c κs = search needs
-
-ahb-requires : tie.Need-ahb-requires
-ahb-requires c κs = search needs
-
-timer-divisor-requires : tie.Need-timer-divisor-requires
-timer-divisor-requires c κs = search needs
-
-cast-over : tie.Need-cast-over
-cast-over c = search needs
-
-over-requires : tie.Need-over-requires
-over-requires c κs = search needs
-
 returns : tie.Need-returns
 returns c =
     let a = c .before .before .before .before .before .before .args in
@@ -34,12 +16,5 @@ returns c =
 
 pub timer-spec : {M : Type 1} → statement M
 timer-spec =
-    tie.close
-    (tie.spec
-    word-requires
-    word-requires-2
-    ahb-requires
-    timer-divisor-requires
-    cast-over
-    over-requires
-    returns)
+    tie.close (tie.spec (λ c κs. search needs) (λ c κs. search needs) (λ c κs. search needs) (λ c κs. search needs) (λ c. search needs)
+    (λ c κs. search needs) returns)

@@ -10,21 +10,6 @@ use borrow.Author.Needs.{needs}
 use Rattle.exact.proofs.mco.mco1_source.Statement.{statement}
 use Rattle.exact.proofs.mco.mco1_source.Tie as tie
 
-word-requires : tie.Need-word-requires
-word-requires c κs = search needs
-
-hsi-requires : tie.Need-hsi-requires
-hsi-requires c κs = search needs
-
-hse-requires : tie.Need-hse-requires
-hse-requires c κs = search needs
-
-output-requires : tie.Need-output-requires
-output-requires c κs = search needs
-
-fixed-requires : tie.Need-fixed-requires
-fixed-requires c κs = search needs
-
 returns : tie.Need-returns
 unfolding mco1Of
 returns c =
@@ -61,16 +46,5 @@ returns-6 c =
 
 pub mco1-source-spec : {M : Type 1} → statement M
 mco1-source-spec =
-    tie.close
-    (tie.spec
-    word-requires
-    hsi-requires
-    hse-requires
-    output-requires
-    fixed-requires
-    returns
-    returns-2
-    returns-3
-    returns-4
-    returns-5
-    returns-6)
+    tie.close (tie.spec (λ c κs. search needs) (λ c κs. search needs) (λ c κs. search needs) (λ c κs. search needs) (λ c κs. search needs)
+    returns returns-2 returns-3 returns-4 returns-5 returns-6)

@@ -10,27 +10,6 @@ use borrow.Author.Needs.{needs}
 use Rattle.exact.proofs.mco.mco2_source.Statement.{statement}
 use Rattle.exact.proofs.mco.mco2_source.Tie as tie
 
-word-requires : tie.Need-word-requires
-word-requires c κs = search needs
-
-sys-requires : tie.Need-sys-requires
-sys-requires c κs = search needs
-
-output-requires : tie.Need-output-requires
-output-requires c κs = search needs
-
-hse-requires : tie.Need-hse-requires
-hse-requires c κs = search needs
-
-output-requires-2 : tie.Need-output-requires-2
-output-requires-2 c κs = search needs
-
-fixed-requires : tie.Need-fixed-requires
-fixed-requires c κs = search needs
-
-fixed-requires-2 : tie.Need-fixed-requires-2
-fixed-requires-2 c κs = search needs
-
 returns : tie.Need-returns
 unfolding mco2Of
 returns c =
@@ -75,19 +54,5 @@ returns-7 c =
 
 pub mco2-source-spec : {M : Type 1} → statement M
 mco2-source-spec =
-    tie.close
-    (tie.spec
-    word-requires
-    sys-requires
-    output-requires
-    hse-requires
-    output-requires-2
-    fixed-requires
-    fixed-requires-2
-    returns
-    returns-2
-    returns-3
-    returns-4
-    returns-5
-    returns-6
-    returns-7)
+    tie.close (tie.spec (λ c κs. search needs) (λ c κs. search needs) (λ c κs. search needs) (λ c κs. search needs) (λ c κs. search needs)
+    (λ c κs. search needs) (λ c κs. search needs) returns returns-2 returns-3 returns-4 returns-5 returns-6 returns-7)

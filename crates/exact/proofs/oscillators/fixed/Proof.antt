@@ -6,9 +6,6 @@ use borrow.Author.Needs.{needs}
 use Rattle.exact.proofs.oscillators.fixed.Statement.{statement}
 use Rattle.exact.proofs.oscillators.fixed.Tie as tie
 
-word-requires : tie.Need-word-requires
-word-requires c κs = search needs
-
 returns : tie.Need-returns
 returns c = rw (← c .before .word .ensures, c .if1 .taken)
 
@@ -19,4 +16,4 @@ returns-2 c =
     rw (← w .ensures, ← switched-on (w .result) (runs (a .hertz)) (omega (arith, c .if1 .left))) (oscillator (a .hertz) (omega arith))
 
 pub fixed-spec : {M : Type 1} → statement M
-fixed-spec = tie.close (tie.spec word-requires returns returns-2)
+fixed-spec = tie.close (tie.spec (λ c κs. search needs) returns returns-2)

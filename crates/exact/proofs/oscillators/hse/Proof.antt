@@ -6,18 +6,6 @@ use borrow.Author.Needs.{needs}
 use Rattle.exact.proofs.oscillators.hse.Statement.{statement}
 use Rattle.exact.proofs.oscillators.hse.Tie as tie
 
-enum-told : tie.Need-enum-told
-enum-told c = search needs
-
-enum-known-fed : tie.Need-enum-known-fed
-enum-known-fed c = search needs
-
-cast-fixed : tie.Need-cast-fixed
-cast-fixed c = search needs
-
-fixed-requires : tie.Need-fixed-requires
-fixed-requires c κs = search needs
-
 returns : tie.Need-returns
 unfolding hseOf
 returns c = rw (c .enum-told .given .1) (never-runs (word (now (c .before .before .before .args .bank)) 58))
@@ -27,5 +15,4 @@ unfolding hseOf
 returns-2 c = rw (c .before .before .fed .given .1) (c .fixed .ensures)
 
 pub hse-spec : {M : Type 1} → statement M
-hse-spec =
-    tie.close (tie.spec enum-told enum-known-fed cast-fixed fixed-requires returns returns-2)
+hse-spec = tie.close (tie.spec (λ c. search needs) (λ c. search needs) (λ c. search needs) (λ c κs. search needs) returns returns-2)

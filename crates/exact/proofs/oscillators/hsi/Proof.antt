@@ -6,21 +6,6 @@ use borrow.Author.Needs.{needs}
 use Rattle.exact.proofs.oscillators.hsi.Statement.{statement}
 use Rattle.exact.proofs.oscillators.hsi.Tie as tie
 
-word-requires : tie.Need-word-requires
-word-requires c κs = search needs
-
-fixed-requires : tie.Need-fixed-requires
-fixed-requires c κs = search needs
-
-fixed-requires-2 : tie.Need-fixed-requires-2
-fixed-requires-2 c κs = search needs
-
-fixed-requires-3 : tie.Need-fixed-requires-3
-fixed-requires-3 c κs = search needs
-
-fixed-requires-4 : tie.Need-fixed-requires-4
-fixed-requires-4 c κs = search needs
-
 returns : tie.Need-returns
 unfolding hsiOf
 returns c fed = rw (← c .before .before .word .ensures, c .before .match .keys1) (c .fixed .ensures)
@@ -45,15 +30,5 @@ returns-5 c fed =
 
 pub hsi-spec : {M : Type 1} → statement M
 hsi-spec =
-    tie.close
-    (tie.spec
-    word-requires
-    fixed-requires
-    fixed-requires-2
-    fixed-requires-3
-    fixed-requires-4
-    returns
-    returns-2
-    returns-3
-    returns-4
-    returns-5)
+    tie.close (tie.spec (λ c κs. search needs) (λ c κs. search needs) (λ c κs. search needs) (λ c κs. search needs) (λ c κs. search needs)
+    returns returns-2 returns-3 returns-4 returns-5)

@@ -8,19 +8,10 @@ use borrow.Author.Needs.{needs}
 use Rattle.exact.proofs.pll.pll_word.Statement.{statement}
 use Rattle.exact.proofs.pll.pll_word.Tie as tie
 
-mul-word : tie.Need-mul-word
-mul-word c = search needs
-
-add-word : tie.Need-add-word
-add-word c = search needs
-
-word-requires : tie.Need-word-requires
-word-requires c κs = search needs
-
 returns : tie.Need-returns
 returns c j e =
     let a = c .before .before .args in
     c .word .ensures ∙ ap (λ (i : ℕ). word (now (a .bank)) i) (omega arith)
 
 pub pll-word-spec : {M : Type 1} → statement M
-pll-word-spec = tie.close (tie.spec mul-word add-word word-requires returns)
+pll-word-spec = tie.close (tie.spec (λ c. search needs) (λ c. search needs) (λ c κs. search needs) returns)

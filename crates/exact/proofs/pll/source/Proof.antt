@@ -7,18 +7,6 @@ use borrow.Author.Needs.{needs}
 use Rattle.exact.proofs.pll.source.Statement.{statement}
 use Rattle.exact.proofs.pll.source.Tie as tie
 
-pll-word-requires : tie.Need-pll-word-requires
-pll-word-requires c κs = search needs
-
-hsi-requires : tie.Need-hsi-requires
-hsi-requires c κs = search needs
-
-fixed-requires : tie.Need-fixed-requires
-fixed-requires c κs = search needs
-
-hse-requires : tie.Need-hse-requires
-hse-requires c κs = search needs
-
 returns : tie.Need-returns
 unfolding sourceOf
 returns c j e = rw (← c .before .pll-word .ensures j e, c .match .keys1)
@@ -43,14 +31,5 @@ returns-5 c j e =
 
 pub source-spec : {M : Type 1} → statement M
 source-spec =
-    tie.close
-    (tie.spec
-    pll-word-requires
-    hsi-requires
-    fixed-requires
-    hse-requires
-    returns
-    returns-2
-    returns-3
-    returns-4
-    returns-5)
+    tie.close (tie.spec (λ c κs. search needs) (λ c κs. search needs) (λ c κs. search needs) (λ c κs. search needs) returns returns-2
+    returns-3 returns-4 returns-5)

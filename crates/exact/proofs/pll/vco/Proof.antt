@@ -6,24 +6,6 @@ use borrow.Author.Needs.{needs}
 use Rattle.exact.proofs.pll.vco.Statement.{statement}
 use Rattle.exact.proofs.pll.vco.Tie as tie
 
-pll-word-requires : tie.Need-pll-word-requires
-pll-word-requires c κs = search needs
-
-pll-word-requires-2 : tie.Need-pll-word-requires-2
-pll-word-requires-2 c κs = search needs
-
-pll-word-requires-3 : tie.Need-pll-word-requires-3
-pll-word-requires-3 c κs = search needs
-
-pll-word-requires-4 : tie.Need-pll-word-requires-4
-pll-word-requires-4 c κs = search needs
-
-source-requires : tie.Need-source-requires
-source-requires c κs = search needs
-
-vco-by-requires : tie.Need-vco-by-requires
-vco-by-requires c κs = search needs
-
 returns : tie.Need-returns
 unfolding vcoOf
 returns c j e =
@@ -34,12 +16,5 @@ returns c j e =
 
 pub vco-spec : {M : Type 1} → statement M
 vco-spec =
-    tie.close
-    (tie.spec
-    pll-word-requires
-    pll-word-requires-2
-    pll-word-requires-3
-    pll-word-requires-4
-    source-requires
-    vco-by-requires
-    returns)
+    tie.close (tie.spec (λ c κs. search needs) (λ c κs. search needs) (λ c κs. search needs) (λ c κs. search needs) (λ c κs. search needs)
+    (λ c κs. search needs) returns)

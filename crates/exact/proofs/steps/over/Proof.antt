@@ -9,13 +9,10 @@ use Rattle.exact.proofs.steps.over.Tie as tie
 returns : tie.Need-returns
 returns c x e = over-zero x (c .if1 .taken)
 
-scaled-requires : tie.Need-scaled-requires
-scaled-requires c κs = search needs
-
 returns-2 : tie.Need-returns-2
 returns-2 c x e =
     let a = c .before .before .args in
     c .scaled .ensures ∙ rw e (over-scaled x (a .d) (omega arith))
 
 pub over-spec : {M : Type 1} → statement M
-over-spec = tie.close (tie.spec returns scaled-requires returns-2)
+over-spec = tie.close (tie.spec returns (λ c κs. search needs) returns-2)

@@ -12,9 +12,6 @@ returns : tie.Need-returns
 unfolding cap
 returns c = rw (c .if1 .taken, mul-zero)
 
-div-if2 : tie.Need-div-if2
-div-if2 c = search needs
-
 mul-result : tie.Need-mul-result
 mul-result c = record { fits = omega (arith, fits (c .before .before .args .a) (c .before .before .args .b) (omega arith) (omega (arith, c .if2 .taken))) }
 
@@ -29,4 +26,4 @@ returns-3 c =
     cap-full (a .a * a .b) (passes (a .a) (a .b) (omega arith) (c .if2 .left))
 
 pub times-spec : {M : Type 1} → statement M
-times-spec = tie.close (tie.spec returns div-if2 mul-result returns-2 returns-3)
+times-spec = tie.close (tie.spec returns (λ c. search needs) mul-result returns-2 returns-3)

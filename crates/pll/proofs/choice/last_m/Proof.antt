@@ -3,17 +3,11 @@ use borrow.Author.Needs.{needs}
 use Rattle.pll.proofs.choice.last_m.Statement.{statement}
 use Rattle.pll.proofs.choice.last_m.Tie as tie
 
-up-to-63-requires : tie.Need-up-to-63-requires
-up-to-63-requires c κs = search needs
-
 returns : tie.Need-returns
 returns c = rw (c .before .if1 .taken) (c .up-to-63 .ensures)
-
-up-to-63-requires-2 : tie.Need-up-to-63-requires-2
-up-to-63-requires-2 c κs = search needs
 
 returns-2 : tie.Need-returns-2
 returns-2 c = rw (c .before .if1 .left) (c .up-to-632 .ensures)
 
 pub last-m-spec : {M : Type 1} → statement M
-last-m-spec = tie.close (tie.spec up-to-63-requires returns up-to-63-requires-2 returns-2)
+last-m-spec = tie.close (tie.spec (λ c κs. search needs) returns (λ c κs. search needs) returns-2)

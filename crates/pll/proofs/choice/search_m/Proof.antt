@@ -50,12 +50,6 @@ module _ (c : tie.In-loop Inv-loop μ-loop) where
       let h = c .loop-test .taken in
       inside (begin .args .medium) _ _ (begin .pre .0) (c .before .loop .inv .0) (omega arith)
 
-first-m-requires : tie.Need-first-m-requires Inv-loop μ-loop
-first-m-requires c κs = search needs
-
-last-m-requires : tie.Need-last-m-requires Inv-loop μ-loop
-last-m-requires c κs = search needs
-
 returns : tie.Need-returns Inv-loop μ-loop
 unfolding chosenM
 returns c = let a = c .before .before .before .args in
@@ -131,18 +125,5 @@ returns-2 c =
 
 pub search-m-spec : {M : Type 1} → statement M
 search-m-spec =
-    tie.close
-    (tie.spec
-    Inv-loop
-    μ-loop
-    first-m-requires
-    last-m-requires
-    returns
-    shortfall-requires
-    add-m
-    loop-holds
-    shortfall-requires-2
-    add-m-2
-    loop-less
-    loop-again
-    returns-2)
+    tie.close (tie.spec Inv-loop μ-loop (λ c κs. search needs) (λ c κs. search needs) returns shortfall-requires add-m loop-holds
+    shortfall-requires-2 add-m-2 loop-less loop-again returns-2)

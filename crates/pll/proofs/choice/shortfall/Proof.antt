@@ -6,17 +6,9 @@ use Prim.Native.Nat.{_/_}
 use borrow.Author.Needs.{needs}
 use Rattle.pll.proofs.choice.shortfall.Statement.{statement}
 use Rattle.pll.proofs.choice.shortfall.Tie as tie
-use Rattle.pll.proofs.choice.shortfall.Reads as reads
-use Rattle.pll.proofs.choice.shortfall.Lts as lts
-
-div-reference : tie.Need-div-reference
-div-reference c = search needs
 
 div-n : tie.Need-div-n
 div-n c = div-pos (c .pre .0) (c .pre .1)
-
-cast-result : tie.Need-cast-result
-cast-result c = search needs
 
 mul-result : tie.Need-mul-result
 mul-result c = let h = mul-div-le (c .args .target) (c .args .source / c .args .m) in omega (arith, c .fits .target .fits)
@@ -32,6 +24,4 @@ unfolding shortfallOf
 returns c = back-sub _ _ (mul-div-le (c .args .target) (c .args .source / c .args .m)) (c .pre .2)
 
 pub shortfall-spec : {M : Type 1} → statement M
-shortfall-spec =
-    tie.close
-    (tie.spec div-reference div-n cast-result mul-result cast-result-2 sub-result returns)
+shortfall-spec = tie.close (tie.spec (λ c. search needs) div-n (λ c. search needs) mul-result cast-result-2 sub-result returns)

@@ -1,17 +1,12 @@
 use borrow.Author.Needs.{needs}
 use Rattle.pll.proofs.outputs.counted.Statement.{statement}
 use Rattle.pll.proofs.outputs.counted.Tie as tie
-use Rattle.pll.proofs.outputs.counted.Reads as reads
-use Rattle.pll.proofs.outputs.counted.Lts as lts
 
 returns : tie.Need-returns
 returns c = rw (c .if1 .taken)
-
-mul-result : tie.Need-mul-result
-mul-result c = search needs
 
 returns-2 : tie.Need-returns-2
 returns-2 c = rw (c .if1 .left)
 
 pub counted-spec : {M : Type 1} → statement M
-counted-spec = tie.close (tie.spec returns mul-result returns-2)
+counted-spec = tie.close (tie.spec returns (λ c. search needs) returns-2)

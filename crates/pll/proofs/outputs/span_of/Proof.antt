@@ -4,18 +4,8 @@ use borrow.Author.Needs.{needs}
 use Rattle.pll.proofs.outputs.span_of.Statement.{statement}
 use Rattle.pll.proofs.outputs.span_of.Tie as tie
 
-span-of-p-requires : tie.Need-span-of-p-requires
-span-of-p-requires c κs = search needs
-
-with-output-requires : tie.Need-with-output-requires
-with-output-requires c κs = search needs
-
-with-output-requires-2 : tie.Need-with-output-requires-2
-with-output-requires-2 c κs = search needs
-
 returns : tie.Need-returns
 returns c = rw (c .with-output2 .ensures, c .before .with-output .ensures, c .before .before .span-of-p .ensures) (span-is _ (c .before .before .before .args .a))
 
 pub span-of-spec : {M : Type 1} → statement M
-span-of-spec =
-    tie.close (tie.spec span-of-p-requires with-output-requires with-output-requires-2 returns)
+span-of-spec = tie.close (tie.spec (λ c κs. search needs) (λ c κs. search needs) (λ c κs. search needs) returns)

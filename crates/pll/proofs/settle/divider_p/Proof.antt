@@ -3,20 +3,11 @@ use borrow.Author.Needs.{needs}
 use Rattle.pll.proofs.settle.divider_p.Statement.{statement}
 use Rattle.pll.proofs.settle.divider_p.Tie as tie
 
-enum-told : tie.Need-enum-told
-enum-told c = search needs
-
-enum-known-h : tie.Need-enum-known-h
-enum-known-h c = search needs
-
 div-result : tie.Need-div-result
 div-result c = (rw (c .before .h .given .1) at (c .before .before .before .pre)) .0
-
-returns : tie.Need-returns
-returns c = search needs
 
 returns-2 : tie.Need-returns-2
 returns-2 c = rw (c .before .h .given .1)
 
 pub divider-p-spec : {M : Type 1} → statement M
-divider-p-spec = tie.close (tie.spec enum-told enum-known-h div-result returns returns-2)
+divider-p-spec = tie.close (tie.spec (λ c. search needs) (λ c. search needs) div-result (λ c. search needs) returns-2)

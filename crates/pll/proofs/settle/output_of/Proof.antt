@@ -3,15 +3,6 @@ use borrow.Author.Needs.{needs}
 use Rattle.pll.proofs.settle.output_of.Statement.{statement}
 use Rattle.pll.proofs.settle.output_of.Tie as tie
 
-enum-told : tie.Need-enum-told
-enum-told c = search needs
-
-returns : tie.Need-returns
-returns c = search needs
-
-enum-known-h : tie.Need-enum-known-h
-enum-known-h c = search needs
-
 div-d : tie.Need-div-d
 div-d c = (rw (c .before .h .given .1) at (c .before .before .before .pre)) .0
 
@@ -22,4 +13,4 @@ returns-2 : tie.Need-returns-2
 returns-2 c = rw (c .before .h .given .1)
 
 pub output-of-spec : {M : Type 1} → statement M
-output-of-spec = tie.close (tie.spec enum-told returns enum-known-h div-d div-t6 returns-2)
+output-of-spec = tie.close (tie.spec (λ c. search needs) (λ c. search needs) (λ c. search needs) div-d div-t6 returns-2)

@@ -7,32 +7,14 @@ use borrow.Author.Needs.{needs}
 use Rattle.pll.proofs.settle.settle.Statement.{statement}
 use Rattle.pll.proofs.settle.settle.Tie as tie
 
-div-n : tie.Need-div-n
-div-n c = search needs
-
 returns : tie.Need-returns
 returns c = n-low _ _ _ _ _ _ _ refl (c .if1 .taken)
 
 returns-2 : tie.Need-returns-2
 returns-2 c = n-high _ _ _ _ _ _ _ refl (c .before .if1 .left) (c .if2 .taken)
 
-first-of-requires : tie.Need-first-of-requires
-first-of-requires c κs = search needs
-
-div-multiply : tie.Need-div-multiply
-div-multiply c = search needs
-
 multiply-requires : tie.Need-multiply-requires
 multiply-requires c κs = let s = c .before .before .before in let h = mul-div-le (s .args .target) (s .args .reference) in let p = s .pre .small in omega arith
-
-enum-told : tie.Need-enum-told
-enum-told c = search needs
-
-enum-known-fraction : tie.Need-enum-known-fraction
-enum-known-fraction c = search needs
-
-place-requires : tie.Need-place-requires
-place-requires c κs = search needs
 
 returns-3 : tie.Need-returns-3
 returns-3 c = let m = c .before .before in
@@ -48,4 +30,6 @@ returns-4 c = let b = c .before .before in
     c .place .ensures ∙ fracn-in _ _ _ _ _ _ _ refl (e .before .if1 .left) (e .if2 .left) _ _ (rw (← k .first-of .ensures) (sym (m .multiply .ensures) ∙ b .fraction .given .1))
 
 pub settle-spec : {M : Type 1} → statement M
-settle-spec = tie.close (tie.spec div-n returns returns-2 first-of-requires div-multiply multiply-requires enum-told returns-3 enum-known-fraction place-requires returns-4)
+settle-spec =
+    tie.close (tie.spec (λ c. search needs) returns returns-2 (λ c κs. search needs) (λ c. search needs) multiply-requires
+    (λ c. search needs) returns-3 (λ c. search needs) (λ c κs. search needs) returns-4)

@@ -7,26 +7,12 @@ use mathlib.Core.Path.{_≡_, sym, _∙_, ap}
 use borrow.Author.Needs.{needs}
 use Rattle.pll.proofs.vco.target_of.Statement.{statement}
 use Rattle.pll.proofs.vco.target_of.Tie as tie
-use Rattle.pll.proofs.vco.target_of.Reads as reads
-use Rattle.pll.proofs.vco.target_of.Lts as lts
-
-div-top : tie.Need-div-top
-div-top c = search needs
 
 mul-top : tie.Need-mul-top
 mul-top c = let h = mul-div-le (c .args .end) (c .args .most) in omega (arith, c .fits .end .fits)
 
-div-divider : tie.Need-div-divider
-div-divider c = search needs
-
-sub-result : tie.Need-sub-result
-sub-result c = search needs
-
 add-result : tie.Need-add-result
 add-result c = let a = c .before .args in let h = mul-div-le (a .end) (a .most) in let g = div-le-self (a .most * (a .end / a .most)) (a .least) in omega (arith, c .before .fits .end .fits)
-
-div-result : tie.Need-div-result
-div-result c = search needs
 
 returns : tie.Need-returns
 unfolding topOf
@@ -38,5 +24,5 @@ returns-2 c = sym (target-whole _ _ _ (c .if1 .left))
 
 pub target-of-spec : {M : Type 1} → statement M
 target-of-spec =
-    tie.close
-    (tie.spec div-top mul-top div-divider sub-result add-result div-result returns returns-2)
+    tie.close (tie.spec (λ c. search needs) mul-top (λ c. search needs) (λ c. search needs) add-result (λ c. search needs) returns
+    returns-2)

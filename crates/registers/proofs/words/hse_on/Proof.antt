@@ -5,24 +5,6 @@ use Rattle.fields.proofs.Stores.{second2As}
 use Rattle.registers.proofs.words.hse_on.Statement.{statement}
 use Rattle.registers.proofs.words.hse_on.Tie as tie
 
-enum-told : tie.Need-enum-told
-enum-told c = search needs
-
-enum-told-2 : tie.Need-enum-told-2
-enum-told-2 c = search needs
-
-bit-of-requires : tie.Need-bit-of-requires
-bit-of-requires c κs = search needs
-
-put2-requires : tie.Need-put2-requires
-put2-requires c κs = search needs
-
-returns : tie.Need-returns
-returns c = search needs
-
-same-length : tie.Need-same-length
-same-length c = search needs
-
 returns-2 : tie.Need-returns-2
 returns-2 c =
     rw (c .before .before .before .before .before .enum-told2 .given .1) (second2As (c .before .before .before .before .before .before .before .before .args .bank .now) Fields.HSEON 1 Fields.HSEBYP (c .before .before .before .before .bit-of .ensures)
@@ -30,5 +12,5 @@ returns-2 c =
 
 pub hse-on-spec : {M : Type 1} → statement M
 hse-on-spec =
-    tie.close
-    (tie.spec enum-told enum-told-2 bit-of-requires put2-requires returns same-length returns-2)
+    tie.close (tie.spec (λ c. search needs) (λ c. search needs) (λ c κs. search needs) (λ c κs. search needs) (λ c. search needs)
+    (λ c. search needs) returns-2)

@@ -4,17 +4,8 @@ use Rattle.fields.proofs.Stores.{next}
 use Rattle.registers.proofs.words.put2.Statement.{statement}
 use Rattle.registers.proofs.words.put2.Tie as tie
 
-put-requires : tie.Need-put-requires
-put-requires c κs = search needs
-
-put-requires-2 : tie.Need-put-requires-2
-put-requires-2 c κs = search needs
-
-same-length : tie.Need-same-length
-same-length c = search needs
-
 returns : tie.Need-returns
 returns c = next _ _ (c .before .before .before .before .before .before .put .ensures) (c .before .before .put2 .ensures)
 
 pub put2-spec : {M : Type 1} → statement M
-put2-spec = tie.close (tie.spec put-requires put-requires-2 same-length returns)
+put2-spec = tie.close (tie.spec (λ c κs. search needs) (λ c κs. search needs) (λ c. search needs) returns)

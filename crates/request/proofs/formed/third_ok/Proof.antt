@@ -9,8 +9,5 @@ pll-ok-requires c κs = rw (c .if1 .taken) at (c .before .before .pre)
 returns : tie.Need-returns
 returns c = rw (c .before .if1 .taken) (c .pll-ok .ensures)
 
-returns-2 : tie.Need-returns-2
-returns-2 c = search needs
-
 pub third-ok-spec : {M : Type 1} → statement M
-third-ok-spec = tie.close (tie.spec pll-ok-requires returns returns-2)
+third-ok-spec = tie.close (tie.spec pll-ok-requires returns (λ c. search needs))

@@ -5,17 +5,8 @@ use Rattle.request.proofs.Codes.{scale-other}
 use Rattle.request.proofs.numbers.scale_of.Statement.{statement}
 use Rattle.request.proofs.numbers.scale_of.Tie as tie
 
-returns : tie.Need-returns
-returns c = search needs
-
-returns-2 : tie.Need-returns-2
-returns-2 c = search needs
-
-returns-3 : tie.Need-returns-3
-returns-3 c = search needs
-
 returns-4 : tie.Need-returns-4
 returns-4 c = let n = c .match .rest in scale-other (c .before .args .n) (λ p. omega (arith, n .0 .0 .1, n .0 .1, n .1))
 
 pub scale-of-spec : {M : Type 1} → statement M
-scale-of-spec = tie.close (tie.spec returns returns-2 returns-3 returns-4)
+scale-of-spec = tie.close (tie.spec (λ c. search needs) (λ c. search needs) (λ c. search needs) returns-4)

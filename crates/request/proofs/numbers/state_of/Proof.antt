@@ -3,14 +3,9 @@ use borrow.Author.Needs.{needs}
 use Rattle.request.proofs.numbers.state_of.Statement.{statement}
 use Rattle.request.proofs.numbers.state_of.Tie as tie
 
-scale-of-requires : tie.Need-scale-of-requires
-scale-of-requires c κs = search needs
-
-hsidiv-of-requires : tie.Need-hsidiv-of-requires
-hsidiv-of-requires c κs = search needs
-
 returns : tie.Need-returns
-returns c = rw (c .before .before .before .before .before .hsidiv-of .ensures, c .before .before .before .before .before .before .scale-of .ensures)
+returns c = let k = c .before .before in rw (k .hsidiv-of .ensures, k .before .scale-of .ensures)
 
 pub state-of-spec : {M : Type 1} → statement M
-state-of-spec = tie.close (tie.spec scale-of-requires hsidiv-of-requires returns)
+state-of-spec =
+    tie.close (tie.spec (λ c κs. search needs) (λ c κs. search needs) (λ c. search needs) (λ c. search needs) (λ c. search needs) returns)

@@ -120,23 +120,6 @@ returns c =
 
 pub decode-spec : {M : Type 1} → statement M
 decode-spec =
-    tie.close
-    (tie.spec
-    hertz-at-requires
-    hertz-at-requires-2
-    hertz-at-requires-3
-    hertz-at-requires-4
-    hertz-at-requires-5
-    hertz-at-requires-6
-    hertz-at-requires-7
-    hertz-at-requires-8
-    hertz-at-requires-9
-    shared-slice-read-t13
-    mco1-at-requires
-    hertz-at-requires-10
-    mco2-at-requires
-    hertz-at-requires-11
-    part-at-requires
-    part-at-requires-2
-    third-at-requires
-    returns)
+    tie.close (tie.spec hertz-at-requires hertz-at-requires-2 hertz-at-requires-3 hertz-at-requires-4 hertz-at-requires-5
+    hertz-at-requires-6 hertz-at-requires-7 hertz-at-requires-8 hertz-at-requires-9 shared-slice-read-t13 mco1-at-requires
+    hertz-at-requires-10 mco2-at-requires hertz-at-requires-11 part-at-requires part-at-requires-2 third-at-requires returns)

@@ -7,15 +7,6 @@ use Rattle.request.specs.Parts.{hertzAt}
 use Rattle.request.proofs.parts.hertz_at.Statement.{statement}
 use Rattle.request.proofs.parts.hertz_at.Tie as tie
 
-add-word-at : tie.Need-add-word-at
-add-word-at c = search needs
-
-word-at-requires : tie.Need-word-at-requires
-word-at-requires c κs = search needs
-
-shared-slice-read-if1 : tie.Need-shared-slice-read-if1
-shared-slice-read-if1 c = search needs
-
 returns : tie.Need-returns
 unfolding hertzAt
 returns c = rw (eq-eqb _ 0 (c .if1 .taken))
@@ -25,5 +16,4 @@ unfolding hertzAt
 returns-2 c = rw (ne-eqb _ 0 (c .if1 .left)) (ap Hz (c .before .before .word-at .ensures))
 
 pub hertz-at-spec : {M : Type 1} → statement M
-hertz-at-spec =
-    tie.close (tie.spec add-word-at word-at-requires shared-slice-read-if1 returns returns-2)
+hertz-at-spec = tie.close (tie.spec (λ c. search needs) (λ c κs. search needs) (λ c. search needs) returns returns-2)

@@ -4,9 +4,6 @@ use borrow.Author.Needs.{needs}
 use Rattle.request.proofs.parts.strategy_at.Statement.{statement}
 use Rattle.request.proofs.parts.strategy_at.Tie as tie
 
-shared-slice-read-if1 : tie.Need-shared-slice-read-if1
-shared-slice-read-if1 c = search needs
-
 returns : tie.Need-returns
 returns c = rw (eq-eqb _ 0 (c .if1 .taken))
 
@@ -14,4 +11,4 @@ returns-2 : tie.Need-returns-2
 returns-2 c = rw (ne-eqb _ 0 (c .if1 .left))
 
 pub strategy-at-spec : {M : Type 1} → statement M
-strategy-at-spec = tie.close (tie.spec shared-slice-read-if1 returns returns-2)
+strategy-at-spec = tie.close (tie.spec (λ c. search needs) returns returns-2)

@@ -7,9 +7,6 @@ use Rattle.request_bytes.specs.Writing.{isWritten}
 use Rattle.request_bytes.proofs.write.is_written.Statement.{statement}
 use Rattle.request_bytes.proofs.write.is_written.Tie as tie
 
-size-of-requires : tie.Need-size-of-requires
-size-of-requires c κs = search needs
-
 returns : tie.Need-returns
 unfolding isWritten
 returns c =
@@ -23,12 +20,6 @@ returns-2 c =
     let a = e .before .before .args in
     rw (eq-eqb (a .room) (sizeOf (a .three)) (e .if1 .left ∙ e .before .size-of .ensures), c .if2 .taken)
 
-array-copy-out-is-no-part : tie.Need-array-copy-out-is-no-part
-array-copy-out-is-no-part c = search needs
-
-is-no-part-requires : tie.Need-is-no-part-requires
-is-no-part-requires c κs = search needs
-
 returns-3 : tie.Need-returns-3
 unfolding isWritten
 returns-3 c =
@@ -38,12 +29,4 @@ returns-3 c =
     rw (eq-eqb (a .room) (sizeOf (a .three)) (e .if1 .left ∙ e .before .size-of .ensures), f .if2 .left) (c .is-no-part .ensures)
 
 pub is-written-spec : {M : Type 1} → statement M
-is-written-spec =
-    tie.close
-    (tie.spec
-    size-of-requires
-    returns
-    returns-2
-    array-copy-out-is-no-part
-    is-no-part-requires
-    returns-3)
+is-written-spec = tie.close (tie.spec (λ c κs. search needs) returns returns-2 (λ c. search needs) (λ c κs. search needs) returns-3)

@@ -6,18 +6,6 @@ use Rattle.request_bytes.proofs.Writing.{then, three-length}
 use Rattle.request_bytes.proofs.write.put_clocks.Statement.{statement}
 use Rattle.request_bytes.proofs.write.put_clocks.Tie as tie
 
-put-three-requires : tie.Need-put-three-requires
-put-three-requires c κs = search needs
-
-put-three-requires-2 : tie.Need-put-three-requires-2
-put-three-requires-2 c κs = search needs
-
-put-three-requires-3 : tie.Need-put-three-requires-3
-put-three-requires-3 c κs = search needs
-
-same-length : tie.Need-same-length
-same-length c = search needs
-
 returns : tie.Need-returns
 unfolding clocksBytes
 returns c = let h3 = c .before .before in
@@ -29,6 +17,4 @@ returns c = let h3 = c .before .before in
     (omega (arith, three-length (q .hse) (q .lse) (q .audio)))
 
 pub put-clocks-spec : {M : Type 1} → statement M
-put-clocks-spec =
-    tie.close
-    (tie.spec put-three-requires put-three-requires-2 put-three-requires-3 same-length returns)
+put-clocks-spec = tie.close (tie.spec (λ c κs. search needs) (λ c κs. search needs) (λ c κs. search needs) (λ c. search needs) returns)

@@ -10,23 +10,11 @@ use Rattle.request_bytes.proofs.Writing.{then, run}
 use Rattle.request_bytes.proofs.write.put_outputs.Statement.{statement}
 use Rattle.request_bytes.proofs.write.put_outputs.Tie as tie
 
-flag-byte-requires : tie.Need-flag-byte-requires
-flag-byte-requires c κs = search needs
-
-slice-write-out : tie.Need-slice-write-out
-slice-write-out c = search needs
-
-mco1-code-requires : tie.Need-mco1-code-requires
-mco1-code-requires c κs = search needs
-
 slice-write-out-2 : tie.Need-slice-write-out-2
 slice-write-out-2 c = simp length-set (omega arith)
 
 put-hertz-requires : tie.Need-put-hertz-requires
 put-hertz-requires c κs = simp length-set (omega arith)
-
-mco2-code-requires : tie.Need-mco2-code-requires
-mco2-code-requires c κs = search needs
 
 slice-write-out-3 : tie.Need-slice-write-out-3
 slice-write-out-3 c =
@@ -67,15 +55,5 @@ returns c =
 
 pub put-outputs-spec : {M : Type 1} → statement M
 put-outputs-spec =
-    tie.close
-    (tie.spec
-    flag-byte-requires
-    slice-write-out
-    mco1-code-requires
-    slice-write-out-2
-    put-hertz-requires
-    mco2-code-requires
-    slice-write-out-3
-    put-hertz-requires-2
-    same-length
-    returns)
+    tie.close (tie.spec (λ c κs. search needs) (λ c. search needs) (λ c κs. search needs) slice-write-out-2 put-hertz-requires
+    (λ c κs. search needs) slice-write-out-3 put-hertz-requires-2 same-length returns)

@@ -1,6 +1,5 @@
 -- `request_bytes::write::put_part` meets its contract.
 use mathlib.Core.List.{[], _∷_}
-use mathlib.Core.Path.{_∙_}
 use Prim.Native.Nat.{_+_}
 use native.Mathlib.Omega.{arith}
 use lib.ListN.{length-set}
@@ -8,15 +7,6 @@ use borrow.Author.Needs.{needs}
 use Rattle.request_bytes.proofs.Writing.{then, run}
 use Rattle.request_bytes.proofs.write.put_part.Statement.{statement}
 use Rattle.request_bytes.proofs.write.put_part.Tie as tie
-
-strategy-code-requires : tie.Need-strategy-code-requires
-strategy-code-requires c κs = search needs
-
-slice-write-out : tie.Need-slice-write-out
-slice-write-out c = search needs
-
-add-put-three : tie.Need-add-put-three
-add-put-three c = search needs
 
 put-three-requires : tie.Need-put-three-requires
 put-three-requires c κs = simp length-set (omega arith)
@@ -32,12 +22,4 @@ returns c =
     rw (k .strategy-code .ensures) at (then (a .at + 1) (run (a .out .now) (a .at) (k .strategy-code .result ∷ [])) (h .put-three .ensures) (omega arith))
 
 pub put-part-spec : {M : Type 1} → statement M
-put-part-spec =
-    tie.close
-    (tie.spec
-    strategy-code-requires
-    slice-write-out
-    add-put-three
-    put-three-requires
-    same-length
-    returns)
+put-part-spec = tie.close (tie.spec (λ c κs. search needs) (λ c. search needs) (λ c. search needs) put-three-requires same-length returns)

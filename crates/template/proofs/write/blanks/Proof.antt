@@ -20,12 +20,6 @@ loop-holds c = (omega arith, nothing _ _ (c .before .pre))
 push-requires : tie.Need-push-requires Inv-loop μ-loop
 push-requires c κs = within (c .before .before .loop .inv .1)
 
-add-i : tie.Need-add-i Inv-loop μ-loop
-add-i c = search needs
-
-loop-less : tie.Need-loop-less Inv-loop μ-loop
-loop-less c = search needs
-
 loop-again : tie.Need-loop-again Inv-loop μ-loop
 loop-again c = (omega arith, one-more 32 (c .before .before .before .before .before .loop .i) (c .before .before .before .before .before .loop .inv .1) (c .before .before .push .ensures))
 
@@ -37,14 +31,4 @@ returns c = all-more _ _ _ (c .before .loop .inv .0) (c .loop-test .left) (c .be
 
 pub blanks-spec : {M : Type 1} → statement M
 blanks-spec =
-    tie.close
-    (tie.spec
-    Inv-loop
-    μ-loop
-    loop-holds
-    push-requires
-    add-i
-    loop-less
-    loop-again
-    same-length
-    returns)
+    tie.close (tie.spec Inv-loop μ-loop loop-holds push-requires (λ c. search needs) (λ c. search needs) loop-again same-length returns)

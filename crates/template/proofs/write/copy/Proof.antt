@@ -17,17 +17,8 @@ abbrev μ-loop : tie.MeasureT-loop
 loop-holds : tie.Need-loop-holds Inv-loop μ-loop
 loop-holds c = (omega arith, nothing _ _ (c .before .before .pre))
 
-shared-slice-read-push : tie.Need-shared-slice-read-push Inv-loop μ-loop
-shared-slice-read-push c = search needs
-
 push-requires : tie.Need-push-requires Inv-loop μ-loop
 push-requires c κs = within (c .before .before .before .loop .inv .1)
-
-add-i : tie.Need-add-i Inv-loop μ-loop
-add-i c = search needs
-
-loop-less : tie.Need-loop-less Inv-loop μ-loop
-loop-less c = search needs
 
 loop-again : tie.Need-loop-again Inv-loop μ-loop
 loop-again c = (omega arith, next-of _ _ (c .before .before .before .before .before .loop-test .taken) (c .before .before .before .before .before .before .loop .inv .1) (c .before .before .push .ensures))
@@ -40,15 +31,5 @@ returns c = all-of _ _ (c .loop-test .left) (c .before .loop .inv .1)
 
 pub copy-spec : {M : Type 1} → statement M
 copy-spec =
-    tie.close
-    (tie.spec
-    Inv-loop
-    μ-loop
-    loop-holds
-    shared-slice-read-push
-    push-requires
-    add-i
-    loop-less
-    loop-again
-    same-length
-    returns)
+    tie.close (tie.spec Inv-loop μ-loop loop-holds (λ c. search needs) push-requires (λ c. search needs) (λ c. search needs) loop-again
+    same-length returns)

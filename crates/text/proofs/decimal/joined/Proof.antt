@@ -9,39 +9,13 @@ use borrow.Author.Needs.{needs}
 use Rattle.text.proofs.decimal.joined.Statement.{statement}
 use Rattle.text.proofs.decimal.joined.Tie as tie
 
-add-from : tie.Need-add-from
-add-from c = search needs
-
 slice-aggregate-read-some : tie.Need-slice-aggregate-read-some
 slice-aggregate-read-some c = let h = c .before .before .pre in sym (length-take-le (c .before .before .args .point) (now (c .before .before .args .s)) (omega arith))
-
-read-some-requires : tie.Need-read-some-requires
-read-some-requires c κs = search needs
-
-sub-and-then : tie.Need-sub-and-then
-sub-and-then c = search needs
-
-part-and-then-start : tie.Need-part-and-then-start
-part-and-then-start c = search needs
-
-part-and-then-end : tie.Need-part-and-then-end
-part-and-then-end c = search needs
-
-and-then-requires : tie.Need-and-then-requires
-and-then-requires c κs = search needs
 
 returns : tie.Need-returns
 returns c = let a = c .before .before .before .before .before .args in rw (c .before .before .read-some .ensures, part-to-end (now (a .s)) (a .point + 1)) at (c .and-then .ensures)
 
 pub joined-spec : {M : Type 1} → statement M
 joined-spec =
-    tie.close
-    (tie.spec
-    add-from
-    slice-aggregate-read-some
-    read-some-requires
-    sub-and-then
-    part-and-then-start
-    part-and-then-end
-    and-then-requires
-    returns)
+    tie.close (tie.spec (λ c. search needs) slice-aggregate-read-some (λ c κs. search needs) (λ c. search needs) (λ c. search needs)
+    (λ c. search needs) (λ c κs. search needs) returns)

@@ -7,15 +7,6 @@ use borrow.Author.Needs.{needs}
 use Rattle.text.proofs.decimal.pointed.Statement.{statement}
 use Rattle.text.proofs.decimal.pointed.Tie as tie
 
-find-requires : tie.Need-find-requires
-find-requires c κs = search needs
-
-read-some-requires : tie.Need-read-some-requires
-read-some-requires c κs = search needs
-
-times-ten-requires : tie.Need-times-ten-requires
-times-ten-requires c κs = search needs
-
 returns : tie.Need-returns
 returns c = let a = c .before .before .before .before .before .args in no-point (a .unit) (now (a .s)) _ (c .before .before .before .find .ensures) (c .before .before .if1 .taken) (c .before .read-some .ensures) (c .times-ten .ensures)
 
@@ -31,23 +22,10 @@ returns-2 c = let a = c .before .before .before .before .args in too-many (a .un
 joined-requires : tie.Need-joined-requires
 joined-requires c κs = let a = c .before .before .before .before .args in let p = within 46 (now (a .s)) _ (c .before .before .find .ensures) (c .before .if1 .left) in omega arith
 
-times-ten-requires-2 : tie.Need-times-ten-requires-2
-times-ten-requires-2 c κs = search needs
-
 returns-3 : tie.Need-returns-3
 returns-3 c = let a = c .before .before .before .before .before .before .args in with-point (a .unit) (now (a .s)) _ (c .before .before .before .before .find .ensures) (c .before .before .before .if1 .left) (c .before .before .if2 .left) (c .before .joined .ensures) (c .times-ten2 .ensures)
 
 pub pointed-spec : {M : Type 1} → statement M
 pointed-spec =
-    tie.close
-    (tie.spec
-    find-requires
-    read-some-requires
-    times-ten-requires
-    returns
-    add-places
-    sub-places
-    returns-2
-    joined-requires
-    times-ten-requires-2
-    returns-3)
+    tie.close (tie.spec (λ c κs. search needs) (λ c κs. search needs) (λ c κs. search needs) returns add-places sub-places returns-2
+    joined-requires (λ c κs. search needs) returns-3)

@@ -11,12 +11,6 @@ use borrow.Author.Needs.{needs}
 use Rattle.text.proofs.decimal.power_of_ten.Statement.{statement}
 use Rattle.text.proofs.decimal.power_of_ten.Tie as tie
 
-mul-result : tie.Need-mul-result
-mul-result c = search needs
-
-array-read-result : tie.Need-array-read-result
-array-read-result c = search needs
-
 abbrev tens : List ℕ
 tens = 1 ∷ 10 ∷ 100 ∷ 1000 ∷ 10000 ∷ 100000 ∷ 1000000 ∷ []
 
@@ -24,4 +18,4 @@ returns : tie.Need-returns
 returns c = let k = c .args .k in eqb-true (getD tens k 0) (10 ^ k) (at-each (λ j. eqb (getD tens j 0) (10 ^ j)) 7 refl k (let h = c .pre in omega arith))
 
 pub power-of-ten-spec : {M : Type 1} → statement M
-power-of-ten-spec = tie.close (tie.spec mul-result array-read-result returns)
+power-of-ten-spec = tie.close (tie.spec (λ c. search needs) (λ c. search needs) returns)

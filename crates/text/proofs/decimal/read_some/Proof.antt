@@ -8,11 +8,8 @@ use Rattle.text.proofs.decimal.read_some.Tie as tie
 returns : tie.Need-returns
 returns c = no-digits (c .before .before .args .v) (now (c .before .before .args .s)) (c .if1 .taken)
 
-read-on-requires : tie.Need-read-on-requires
-read-on-requires c κs = search needs
-
 returns-2 : tie.Need-returns-2
 returns-2 c = some-digits (c .before .before .before .args .v) (now (c .before .before .before .args .s)) (c .before .if1 .left) (c .read-on .ensures)
 
 pub read-some-spec : {M : Type 1} → statement M
-read-some-spec = tie.close (tie.spec returns read-on-requires returns-2)
+read-some-spec = tie.close (tie.spec returns (λ c κs. search needs) returns-2)

@@ -10,17 +10,8 @@ returns c = rw (lt-leb 48 (c .before .args .b) (c .if1 .taken))
 returns-2 : tie.Need-returns-2
 returns-2 c = rw (lt-leb (c .before .before .args .b) 57 (c .if2 .taken), le-leb 48 (c .before .before .args .b) (c .before .if1 .left))
 
-mul-result : tie.Need-mul-result
-mul-result c = search needs
-
-sub-result : tie.Need-sub-result
-sub-result c = search needs
-
-add-result : tie.Need-add-result
-add-result c = search needs
-
 returns-3 : tie.Need-returns-3
 returns-3 c = rw (le-leb (c .before .before .args .b) 57 (c .if2 .left), le-leb 48 (c .before .before .args .b) (c .before .if1 .left))
 
 pub with-digit-spec : {M : Type 1} → statement M
-with-digit-spec = tie.close (tie.spec returns returns-2 mul-result sub-result add-result returns-3)
+with-digit-spec = tie.close (tie.spec returns returns-2 (λ c. search needs) (λ c. search needs) (λ c. search needs) returns-3)

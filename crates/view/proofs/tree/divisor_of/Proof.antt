@@ -1,9 +1,9 @@
 -- `view::tree::divisor_of` meets its contract.
 use mathlib.Core.Path.{ap, _∙_}
 use Prim.Native.Nat.{ℕ, _+_}
-use borrow.Author.Needs.{needs}
 use borrow.Author.Tests.{eq-eqb, ne-eqb, le-leb, lt-leb}
 use Rattle.view.specs.View.{divisorOf}
+use borrow.Author.Needs.{needs}
 use Rattle.view.proofs.tree.divisor_of.Statement.{statement}
 use Rattle.view.proofs.tree.divisor_of.Tie as tie
 
@@ -11,30 +11,9 @@ returns : tie.Need-returns
 unfolding divisorOf
 returns c = let k = c .before .before .args .k in rw (eq-eqb k 0 (c .if1 .taken))
 
-add-word : tie.Need-add-word
-add-word c = search needs
-
-word-requires : tie.Need-word-requires
-word-requires c κs = search needs
-
-cast-result : tie.Need-cast-result
-cast-result c = search needs
-
 returns-2 : tie.Need-returns-2
 unfolding divisorOf
 returns-2 c = let k = c .before .before .before .before .args .k in rw (ne-eqb k 0 (c .before .before .if1 .left), le-leb k 4 (c .before .if2 .taken)) (c .word .ensures)
-
-word-requires-2 : tie.Need-word-requires-2
-word-requires-2 c κs = search needs
-
-add-word-2 : tie.Need-add-word-2
-add-word-2 c = search needs
-
-word-requires-3 : tie.Need-word-requires-3
-word-requires-3 c κs = search needs
-
-timer-divisor-requires : tie.Need-timer-divisor-requires
-timer-divisor-requires c κs = search needs
 
 returns-3 : tie.Need-returns-3
 unfolding divisorOf
@@ -44,52 +23,13 @@ returns-4 : tie.Need-returns-4
 unfolding divisorOf
 returns-4 c = let k = c .before .before .before .before .before .args .k in rw (ne-eqb k 0 (c .before .before .before .if1 .left), lt-leb k 4 (c .before .before .if2 .left), lt-leb k 6 (c .before .if3 .left), le-leb k 14 (c .if4 .taken))
 
-word-requires-4 : tie.Need-word-requires-4
-word-requires-4 c κs = search needs
-
-cast-result-2 : tie.Need-cast-result-2
-cast-result-2 c = search needs
-
 returns-5 : tie.Need-returns-5
 unfolding divisorOf
 returns-5 c = let k = c .before .before .before .before .before .before .before .args .k in rw (ne-eqb k 0 (c .before .before .before .before .before .if1 .left), lt-leb k 4 (c .before .before .before .before .if2 .left), lt-leb k 6 (c .before .before .before .if3 .left), lt-leb k 14 (c .before .before .if4 .left), eq-eqb k 15 (c .before .if5 .taken)) (c .word4 .ensures)
 
-word-requires-5 : tie.Need-word-requires-5
-word-requires-5 c κs = search needs
-
-cast-result-3 : tie.Need-cast-result-3
-cast-result-3 c = search needs
-
 returns-6 : tie.Need-returns-6
 unfolding divisorOf
 returns-6 c = let k = c .before .before .before .before .before .before .before .before .args .k in rw (ne-eqb k 0 (c .before .before .before .before .before .before .if1 .left), lt-leb k 4 (c .before .before .before .before .before .if2 .left), lt-leb k 6 (c .before .before .before .before .if3 .left), lt-leb k 14 (c .before .before .before .if4 .left), ne-eqb k 15 (c .before .before .if5 .left), eq-eqb k 16 (c .before .if6 .taken)) (c .word5 .ensures)
-
-sub-word : tie.Need-sub-word
-sub-word c = search needs
-
-mul-word : tie.Need-mul-word
-mul-word c = search needs
-
-sub-word-2 : tie.Need-sub-word-2
-sub-word-2 c = search needs
-
-mul-word-2 : tie.Need-mul-word-2
-mul-word-2 c = search needs
-
-add-word-3 : tie.Need-add-word-3
-add-word-3 c = search needs
-
-add-word-4 : tie.Need-add-word-4
-add-word-4 c = search needs
-
-word-requires-6 : tie.Need-word-requires-6
-word-requires-6 c κs = search needs
-
-cast-result-4 : tie.Need-cast-result-4
-cast-result-4 c = search needs
-
-add-result : tie.Need-add-result
-add-result c = search needs
 
 returns-7 : tie.Need-returns-7
 unfolding divisorOf
@@ -101,33 +41,8 @@ returns-8 c = let k = c .before .before .before .before .before .before .before 
 
 pub divisor-of-spec : {M : Type 1} → statement M
 divisor-of-spec =
-    tie.close
-    (tie.spec
-    returns
-    add-word
-    word-requires
-    cast-result
-    returns-2
-    word-requires-2
-    add-word-2
-    word-requires-3
-    timer-divisor-requires
-    returns-3
-    returns-4
-    word-requires-4
-    cast-result-2
-    returns-5
-    word-requires-5
-    cast-result-3
-    returns-6
-    sub-word
-    mul-word
-    sub-word-2
-    mul-word-2
-    add-word-3
-    add-word-4
-    word-requires-6
-    cast-result-4
-    add-result
-    returns-7
-    returns-8)
+    tie.close (tie.spec returns (λ c. search needs) (λ c. search needs) (λ c κs. search needs) (λ c. search needs) returns-2
+    (λ c κs. search needs) (λ c. search needs) (λ c. search needs) (λ c κs. search needs) (λ c κs. search needs) returns-3 returns-4
+    (λ c κs. search needs) (λ c. search needs) returns-5 (λ c κs. search needs) (λ c. search needs) returns-6 (λ c. search needs)
+    (λ c. search needs) (λ c. search needs) (λ c. search needs) (λ c. search needs) (λ c. search needs) (λ c κs. search needs)
+    (λ c. search needs) (λ c. search needs) returns-7 returns-8)

@@ -6,12 +6,6 @@ use Rattle.view.specs.View.{swClock, perClock, mco1Clock, mco2Clock, fro
 use Rattle.view.proofs.tree.from_of.Statement.{statement}
 use Rattle.view.proofs.tree.from_of.Tie as tie
 
-word-requires : tie.Need-word-requires
-word-requires c κs = search needs
-
-sw-clock-requires : tie.Need-sw-clock-requires
-sw-clock-requires c κs = search needs
-
 returns : tie.Need-returns
 unfolding fromOf
 returns c = let k = c .before .before .before .before .args .k in rw (eq-eqb k 0 (c .before .before .if1 .taken)) (c .sw-clock .ensures ∙ ap swClock (c .before .word .ensures))
@@ -24,12 +18,6 @@ returns-3 : tie.Need-returns-3
 unfolding fromOf
 returns-3 c = let k = c .before .before .before .before .args .k in rw (ne-eqb k 0 (c .before .before .if1 .left), ne-eqb k 1 (c .before .if2 .left), le-leb k 6 (c .if3 .taken))
 
-word-requires-2 : tie.Need-word-requires-2
-word-requires-2 c κs = search needs
-
-per-clock-requires : tie.Need-per-clock-requires
-per-clock-requires c κs = search needs
-
 returns-4 : tie.Need-returns-4
 unfolding fromOf
 returns-4 c = let k = c .before .before .before .before .before .before .before .args .k in rw (ne-eqb k 0 (c .before .before .before .before .before .if1 .left), ne-eqb k 1 (c .before .before .before .before .if2 .left), lt-leb k 6 (c .before .before .before .if3 .left), eq-eqb k 7 (c .before .before .if4 .taken)) (c .per-clock .ensures ∙ ap perClock (c .before .word2 .ensures))
@@ -38,31 +26,13 @@ returns-5 : tie.Need-returns-5
 unfolding fromOf
 returns-5 c = let k = c .before .before .before .before .before .before .args .k in rw (ne-eqb k 0 (c .before .before .before .before .if1 .left), ne-eqb k 1 (c .before .before .before .if2 .left), lt-leb k 6 (c .before .before .if3 .left), ne-eqb k 7 (c .before .if4 .left), le-leb k 14 (c .if5 .taken))
 
-word-requires-3 : tie.Need-word-requires-3
-word-requires-3 c κs = search needs
-
-mco1-clock-requires : tie.Need-mco1-clock-requires
-mco1-clock-requires c κs = search needs
-
 returns-6 : tie.Need-returns-6
 unfolding fromOf
 returns-6 c = let k = c .before .before .before .before .before .before .before .before .before .args .k in rw (ne-eqb k 0 (c .before .before .before .before .before .before .before .if1 .left), ne-eqb k 1 (c .before .before .before .before .before .before .if2 .left), lt-leb k 6 (c .before .before .before .before .before .if3 .left), ne-eqb k 7 (c .before .before .before .before .if4 .left), lt-leb k 14 (c .before .before .before .if5 .left), eq-eqb k 15 (c .before .before .if6 .taken)) (c .mco1-clock .ensures ∙ ap mco1Clock (c .before .word3 .ensures))
 
-word-requires-4 : tie.Need-word-requires-4
-word-requires-4 c κs = search needs
-
-mco2-clock-requires : tie.Need-mco2-clock-requires
-mco2-clock-requires c κs = search needs
-
 returns-7 : tie.Need-returns-7
 unfolding fromOf
 returns-7 c = let k = c .before .before .before .before .before .before .before .before .before .before .args .k in rw (ne-eqb k 0 (c .before .before .before .before .before .before .before .before .if1 .left), ne-eqb k 1 (c .before .before .before .before .before .before .before .if2 .left), lt-leb k 6 (c .before .before .before .before .before .before .if3 .left), ne-eqb k 7 (c .before .before .before .before .before .if4 .left), lt-leb k 14 (c .before .before .before .before .if5 .left), ne-eqb k 15 (c .before .before .before .if6 .left), eq-eqb k 16 (c .before .before .if7 .taken)) (c .mco2-clock .ensures ∙ ap mco2Clock (c .before .word4 .ensures))
-
-sub-result : tie.Need-sub-result
-sub-result c = search needs
-
-add-result : tie.Need-add-result
-add-result c = search needs
 
 returns-8 : tie.Need-returns-8
 unfolding fromOf
@@ -74,24 +44,6 @@ returns-9 c = let k = c .before .before .before .before .before .before .before 
 
 pub from-of-spec : {M : Type 1} → statement M
 from-of-spec =
-    tie.close
-    (tie.spec
-    word-requires
-    sw-clock-requires
-    returns
-    returns-2
-    returns-3
-    word-requires-2
-    per-clock-requires
-    returns-4
-    returns-5
-    word-requires-3
-    mco1-clock-requires
-    returns-6
-    word-requires-4
-    mco2-clock-requires
-    returns-7
-    sub-result
-    add-result
-    returns-8
-    returns-9)
+    tie.close (tie.spec (λ c κs. search needs) (λ c κs. search needs) returns returns-2 returns-3 (λ c κs. search needs)
+    (λ c κs. search needs) returns-4 returns-5 (λ c κs. search needs) (λ c κs. search needs) returns-6 (λ c κs. search needs)
+    (λ c κs. search needs) returns-7 (λ c. search needs) (λ c. search needs) returns-8 returns-9)

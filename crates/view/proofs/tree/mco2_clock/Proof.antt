@@ -6,27 +6,10 @@ use Rattle.view.proofs.Codes.{past-all}
 use Rattle.view.proofs.tree.mco2_clock.Statement.{statement}
 use Rattle.view.proofs.tree.mco2_clock.Tie as tie
 
-returns : tie.Need-returns
-returns c = search needs
-
-returns-2 : tie.Need-returns-2
-returns-2 c = search needs
-
-returns-3 : tie.Need-returns-3
-returns-3 c = search needs
-
-returns-4 : tie.Need-returns-4
-returns-4 c = search needs
-
-returns-5 : tie.Need-returns-5
-returns-5 c = search needs
-
-returns-6 : tie.Need-returns-6
-returns-6 c = search needs
-
 returns-7 : tie.Need-returns-7
 returns-7 c = past-all (0 ∷ 20 ∷ 12 ∷ 17 ∷ 9 ∷ 11 ∷ []) (c .before .args .code) (none-below 6 (c .before .args .code) (c .match .rest))
 
 pub mco2-clock-spec : {M : Type 1} → statement M
 mco2-clock-spec =
-    tie.close (tie.spec returns returns-2 returns-3 returns-4 returns-5 returns-6 returns-7)
+    tie.close (tie.spec (λ c. search needs) (λ c. search needs) (λ c. search needs) (λ c. search needs) (λ c. search needs)
+    (λ c. search needs) returns-7)

@@ -42,17 +42,5 @@ returns-12 c = let a = c .before .before .args in no-divisor (a .timpre) (a .ppr
 
 pub timer-divisor-spec : {M : Type 1} → statement M
 timer-divisor-spec =
-    tie.close
-    (tie.spec
-    returns
-    returns-2
-    returns-3
-    returns-4
-    returns-5
-    returns-6
-    returns-7
-    returns-8
-    returns-9
-    returns-10
-    returns-11
+    tie.close (tie.spec returns returns-2 returns-3 returns-4 returns-5 returns-6 returns-7 returns-8 returns-9 returns-10 returns-11
     returns-12)

@@ -10,25 +10,7 @@ Inv-loop sets set₀ set = Unit {0}
 abbrev μ-loop : tie.MeasureT-loop
 μ-loop sets set₀ set = sets - set
 
-loop-holds : tie.Need-loop-holds Inv-loop μ-loop
-loop-holds c = search needs
-
-one-requires : tie.Need-one-requires Inv-loop μ-loop
-one-requires c κs = search needs
-
-add-set : tie.Need-add-set Inv-loop μ-loop
-add-set c = search needs
-
-loop-less : tie.Need-loop-less Inv-loop μ-loop
-loop-less c = search needs
-
-loop-again : tie.Need-loop-again Inv-loop μ-loop
-loop-again c = search needs
-
-returns : tie.Need-returns Inv-loop μ-loop
-returns c = search needs
-
 pub all-spec : {M : Type 1} → statement M
 all-spec =
-    tie.close
-    (tie.spec Inv-loop μ-loop loop-holds one-requires add-set loop-less loop-again returns)
+    tie.close (tie.spec Inv-loop μ-loop (λ c. search needs) (λ c κs. search needs) (λ c. search needs) (λ c. search needs)
+    (λ c. search needs) (λ c. search needs))
