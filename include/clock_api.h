@@ -52,6 +52,12 @@ uint32_t clock_entries(const uint8_t *request, size_t request_length, const uint
 uint32_t clock_bank(const uint8_t *request, size_t request_length, const uint8_t *chip, size_t chip_length, uint32_t *bank,
                     size_t bank_length);
 
+/* Plans a request once, and does what clock_plan and clock_bank do: its clocks are stored in `report`, of 55 words, and its whole list is
+ * applied to `bank`, of 82 words.
+ * Returns as clock_plan does, and 2 for a bank of another length. A refused call leaves `report` and `bank` as they were. */
+uint32_t clock_plan_bank(const uint8_t *request, size_t request_length, const uint8_t *chip, size_t chip_length, uint32_t *report,
+                         size_t report_length, uint32_t *bank, size_t bank_length);
+
 /* Walks over the list of a request. Each step takes two words of `reads`: the values read for the first and the second field of the entry
  * shown. What is shown before the first step and after each is stored in `shown`, nine words each: an entry; nine 0 for finished; 5 and the
  * refusal's number for a refusal. A refused request shows its refusal from the start, stored like anything shown.

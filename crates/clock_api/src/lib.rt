@@ -11,6 +11,7 @@ use types::Chip;
 use types::Planned;
 use types::Refusal;
 
+mod both;
 mod one_pll;
 mod walks;
 

@@ -31,8 +31,8 @@ fn main() {
     println!("twice. freeze is the Rust's setters and freeze, unchanged sources, overflow");
     println!("checks on, over a stand-in that stores each field in a word and answers every");
     println!("poll at once: no time of real registers is in it. The second row comes from the");
-    println!("same request to the same clocks and registers, by two calls that each plan it;");
-    println!("the rows below are one call each, on bytes made before.");
+    println!("same request to the same clocks and registers, in one call; the rows below are");
+    println!("one call each, on bytes made before.");
 }
 
 /// How far two measurements may differ, and how often they are made again.
@@ -89,8 +89,7 @@ fn table(chip: &Chip, quiet: &Quiet, rounds: u32) {
             &mut || {
                 samples.iter().for_each(|sample| {
                     let bytes = sample.request.to_bytes(chip);
-                    keep(&raw::plan(&bytes, &numbers, &mut clocks));
-                    keep(&raw::bank(&bytes, &numbers, &mut registers.words))
+                    keep(&raw::plan_bank(&bytes, &numbers, &mut clocks, &mut registers.words))
                 })
             },
             &mut || samples.iter().for_each(|sample| keep(&raw::plan(&sample.bytes, &numbers, &mut report))),
@@ -102,7 +101,7 @@ fn table(chip: &Chip, quiet: &Quiet, rounds: u32) {
     println!("{} PLLs{:>52}{:>13}", chip.plls as u8, "ns a request", "of freeze");
     for (name, time) in [
         ("setters and freeze: clocks and registers", freeze),
-        ("to_bytes, clock_plan, clock_bank: the same", both),
+        ("to_bytes, clock_plan_bank: the same", both),
         ("clock_plan alone: clocks, in 55 words", plan),
         ("clock_bank alone: registers, in 82 words", store),
         ("clock_entries alone: the list, in 622 words", entries),

@@ -47,7 +47,7 @@ pub use bank::Bank;
 pub use chip::{Chip, HsiDiv, Plls, Scale};
 pub use entry::{entries, Entries, Entry, Field, Kind};
 pub use leaves::{ahb, apb, flash, fracn, mco, pll, reset_reason, timer, vco, Bus, Flash, Pll, ResetReason};
-pub use plan::{plan, Clock, Plan};
+pub use plan::{plan, plan_bank, Clock, Plan};
 pub use refusal::{Refusal, REFUSALS};
 pub use request::{Bytes, Mco1Source, Mco2Source, PllRequest, Request, Strategy};
 pub use walk::{voltage_walk, walk, Shown};

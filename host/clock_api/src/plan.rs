@@ -1,5 +1,5 @@
 //! Plans: the hertz that come out.
-use crate::{raw, Chip, Refusal, Request};
+use crate::{raw, Bank, Chip, Refusal, Request};
 
 /// The clocks of a report, in its order.
 #[derive(Clone, Copy, Debug, PartialEq, Eq)]
@@ -106,6 +106,13 @@ impl Plan {
     pub fn ppre(&self) -> [u32; 3] {
         [self.report[52], self.report[53], self.report[54]]
     }
+}
+
+/// Plans a request once, for its clocks and its registers: the whole list is applied to `bank`, which a refusal leaves as it was.
+pub fn plan_bank(request: &Request, chip: &Chip, bank: &mut Bank) -> Result<Plan, Refusal> {
+    let mut report = [0; raw::REPORT];
+    Refusal::of(raw::plan_bank(&request.to_bytes(chip), &chip.to_bytes(), &mut report, &mut bank.words))?;
+    Ok(Plan { report })
 }
 
 /// Plans a request.

@@ -5,6 +5,16 @@ mod c {
         pub fn clock_plan(request: *const u8, n: usize, chip: *const u8, m: usize, report: *mut u32, k: usize) -> u32;
         pub fn clock_entries(request: *const u8, n: usize, chip: *const u8, m: usize, list: *mut u32, k: usize) -> u32;
         pub fn clock_bank(request: *const u8, n: usize, chip: *const u8, m: usize, bank: *mut u32, k: usize) -> u32;
+        pub fn clock_plan_bank(
+            request: *const u8,
+            n: usize,
+            chip: *const u8,
+            m: usize,
+            report: *mut u32,
+            k: usize,
+            bank: *mut u32,
+            l: usize,
+        ) -> u32;
         pub fn clock_walk(
             request: *const u8,
             n: usize,
@@ -59,6 +69,23 @@ pub fn entries(request: &[u8], chip: &[u8], list: &mut [u32]) -> u32 {
 #[inline]
 pub fn bank(request: &[u8], chip: &[u8], bank: &mut [u32]) -> u32 {
     unsafe { c::clock_bank(request.as_ptr(), request.len(), chip.as_ptr(), chip.len(), bank.as_mut_ptr(), bank.len()) }
+}
+
+/// Plans a request once: the report is left in `report`, of [`REPORT`] words, and the whole list is applied to `bank`, of [`BANK`] words.
+#[inline]
+pub fn plan_bank(request: &[u8], chip: &[u8], report: &mut [u32], bank: &mut [u32]) -> u32 {
+    unsafe {
+        c::clock_plan_bank(
+            request.as_ptr(),
+            request.len(),
+            chip.as_ptr(),
+            chip.len(),
+            report.as_mut_ptr(),
+            report.len(),
+            bank.as_mut_ptr(),
+            bank.len(),
+        )
+    }
 }
 
 /// Walks a request's list over values that were read, two for each step. What is shown before the first step and after each is left in

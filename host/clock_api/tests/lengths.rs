@@ -34,6 +34,14 @@ fn what_is_lent_to_the_calls() {
     for length in others(raw::BANK) {
         assert_eq!(lent(length, |words| raw::bank(&request, &chip, words)), 2, "a bank of {length}");
     }
+    for length in others(raw::REPORT) {
+        let answer = lent(length, |report| lent(raw::BANK, |bank| raw::plan_bank(&request, &chip, report, bank)));
+        assert_eq!(answer, 1, "a report of {length} beside a bank");
+    }
+    for length in others(raw::BANK) {
+        let answer = lent(raw::REPORT, |report| lent(length, |bank| raw::plan_bank(&request, &chip, report, bank)));
+        assert_eq!(answer, 2, "a bank of {length} beside a report");
+    }
 }
 
 /// Slices of the right length: the words beside them stay, and so do those behind a list's last entry and the fields that no entry sets.

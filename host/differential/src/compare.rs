@@ -79,6 +79,7 @@ impl Comparison {
         check(of_entries == number && of_bank == number, || {
             format!("clock_plan answers {number}, clock_entries {of_entries}, clock_bank {of_bank}")
         })?;
+        self.in_one_call(case, number, &before, &bank)?;
         if number != 0 {
             self.untouched(&bank, &before)?;
         }
@@ -93,6 +94,15 @@ impl Comparison {
             }
             Some((asked, chip)) => self.well_formed(case, &asked, &chip, number, &before, &bank),
         }
+    }
+
+    /// One call for clocks and bank leaves what the two calls leave.
+    fn in_one_call(&self, case: &Case, number: u32, before: &Bank, after: &Bank) -> Checked<()> {
+        let mut report = [UNTOUCHED; raw::REPORT];
+        let mut bank = *before;
+        let of_both = raw::plan_bank(&case.request, &case.chip, &mut report, &mut bank.words);
+        check(of_both == number, || format!("clock_plan answers {number}, clock_plan_bank {of_both}"))?;
+        check(report == self.report && bank.words == after.words, || "clock_plan_bank leaves other words".to_string())
     }
 
     /// At reset values, or with any words.
