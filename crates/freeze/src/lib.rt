@@ -1,4 +1,4 @@
-// From a typed request and the chip's state to one complete plan or one refusal of 3 to 23. rcc.rs (freeze).
+// From a typed request and the chip's state to one complete plan or one refusal: 1, or one of 3 to 23. rcc.rs (freeze).
 ghost use mathlib.Core.Path.{_≡_};
 ghost use lib.Dec.{eqb};
 ghost use Rattle.rules.specs.Answers.{pllResult, busesResult, mcosResult};
