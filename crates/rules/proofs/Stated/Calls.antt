@@ -1,10 +1,15 @@
--- What the calls do at their edges, as document 01 states it: a bank's length, a reset word's PLL count, and the walk of a refused request.
+-- What the calls do at their edges, as document 01 states it: a third part on two PLLs, a bank's length, a reset word's PLL count, and the walk of a refused request.
 use mathlib.Core.Path.{_≡_, refl}
 use mathlib.Core.Bool.{true, false}
 use mathlib.Core.List.{List, [], _∷_, map}
 use Prim.Native.Nat.{ℕ, _≤_}
 use borrow.Author.Tests.{ne-eqb, le-ltb}
 use Rattle.types.specs.declared.Chip.{Chip}
+use Rattle.types.specs.declared.ChipState.{ChipState}
+use Rattle.types.specs.declared.Hertz.the-variants.{Unset, Hz}
+use Rattle.types.specs.declared.PllRequest.{PllRequest}
+use Rattle.types.specs.declared.Request.{Request}
+use Rattle.types.specs.declared.Strategy.the-variants.{Integer}
 use Rattle.types.specs.declared.Refusal.{Refusal}
 use Rattle.types.specs.declared.Refusal.the-variants.{OutsideCodes, BankLength}
 use Rattle.types.specs.declared.ResetReason.the-variants.{PinReset, Unknown}
@@ -13,14 +18,29 @@ use Rattle.types.specs.declared.Answer.the-variants.{Refused}
 use Rattle.types.specs.declared.Planned.{Planned}
 use Rattle.rules.specs.Document01.Result.{Result, refused, ok}
 use Rattle.rules.specs.Document01.Refusals.{numberOf, codeOf}
-use Rattle.rules.specs.Document01.Bytes.{requestBytes}
-use Rattle.rules.specs.Document01.Plan.{Asked, requestOf, bankPlanOf}
+use Rattle.rules.specs.Document01.Bytes.{requestBytes, isNoPart}
+use Rattle.rules.specs.Document01.Request.{pllAt}
+use Rattle.rules.specs.Document01.Plan.{Asked, requestOf, bankPlanOf, answerTyped}
 use Rattle.rules.specs.Document01.ResetReason.{reasonBy, reasonOf, writeBackOf, Told, resetOf}
 use Rattle.rules.specs.Document01.Walk.{ended, shownOf, freshOf, steppedOf, voltageTo, voltageStepped}
 use Rattle.rules.specs.Demands.Walks.{Pair, shows, Always}
 use Rattle.rules.proofs.Computes.{byRules}
-use Rattle.rules.proofs.Samples.{nothing, chip}
+use Rattle.rules.proofs.Samples.{nothing, chip, none, pll, plls3, state, state3}
 use Rattle.rules.proofs.Document01.Walk.{ended-always}
+
+-- ---- 1, a PLL3 part on a two-PLL chip, of a typed request: PLL2 alone and PLL3 alone, on two PLLs and on three; and for every request
+abbrev audio : PllRequest
+audio = pll Integer (Hz 12_000_000) Unset
+
+pub third-parts :
+    map (λ c. map (λ q. codeOf (answerTyped q c .answer)) (plls3 Unset Unset none audio none ∷ plls3 Unset Unset none none audio ∷ [])) (state true ∷ state3 true true true ∷ [])
+    ≡ (0 ∷ 1 ∷ []) ∷ (0 ∷ 0 ∷ []) ∷ []
+unfolding byRules answerTyped
+third-parts = refl
+
+pub third-part : (q : Request) (c : ChipState) → c .three ≡ false → isNoPart (pllAt q 2) ≡ false → answerTyped q c .answer ≡ Refused OutsideCodes
+unfolding answerTyped
+third-part q c two there = rw (two, there)
 
 -- ---- 2, a bank that is not 82 words: 0, 81, 82, 83, 164 words, on two PLLs and on three; and for every request
 pub bank-lengths :
