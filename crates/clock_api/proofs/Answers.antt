@@ -16,7 +16,7 @@ use Rattle.rules.specs.Document01.Plan.{planOf, bankPlanOf}
 use Rattle.rules.specs.Document01.Entries.{entriesOf}
 use Rattle.rules.specs.Document01.Bank.{applyAll}
 use Rattle.rules.specs.Words.{storedFrom, reportWords, listed as listedIn}
-use Rattle.clock_api.specs.Calls.{bothAsked, chipFrom, outside, askedOf, bankAsked, reportBy, listBy}
+use Rattle.clock_api.specs.Calls.{chipFrom, outside, askedOf, bankAsked, reportBy, listBy}
 
 module _ (request chip : List ℕ) (fits : Bool) where
   pub no-chip : length chip ≢ 7 → outside ≡ askedOf request chip fits
@@ -49,39 +49,25 @@ module _ (x : Planned) (room : List ℕ) {n : Refusal} {k : ℕ} where
   list-kept a e = rw a (e, refl)
 
 -- ---- the bank call
-module _ (request chip : List ℕ) (words : ℕ) (b : List ℕ) where
-  pub bank-kept : length chip ≢ 7 → (1 ≡ codeOf (bankAsked request chip words .answer)) × (b ≡ applyAll (entriesOf (bankAsked request chip words)) b)
-  unfolding bankAsked entriesOf
-  bank-kept h = rw (ne-eqb (length chip) 7 h) (refl, refl)
-
-  as-asked : length chip ≡ 7 → bankPlanOf request (chipFrom chip) words ≡ bankAsked request chip words
-  unfolding bankAsked
-  as-asked h = rw (eq-eqb (length chip) 7 h)
-
-  pub bank-done : {x : Planned} {c : Chip} {r : ℕ} {b₁ : List ℕ} → length chip ≡ 7 → c ≡ chipFrom chip → x ≡ bankPlanOf request c words → r ≡ codeOf (x .answer) → b₁ ≡ applyAll (entriesOf x) b
-      → (r ≡ codeOf (bankAsked request chip words .answer)) × (b₁ ≡ applyAll (entriesOf (bankAsked request chip words)) b)
-  bank-done h d e f g = rw (g, f, e, d, as-asked h) (refl, refl)
-
--- ---- the bank call beside a report
 module _ (request chip : List ℕ) (fits : Bool) (words : ℕ) (b : List ℕ) where
   abbrev Says : Planned → List ℕ → Type 0
-  Says x b₁ = (x ≡ bothAsked request chip fits words) × (b₁ ≡ applyAll (entriesOf (bothAsked request chip fits words)) b)
+  Says x b₁ = (x ≡ bankAsked request chip fits words) × (b₁ ≡ applyAll (entriesOf (bankAsked request chip fits words)) b)
 
-  refused-both : {x : Planned} → outside ≡ bothAsked request chip fits words → x ≡ outside → Says x b
+  refused-bank : {x : Planned} → outside ≡ bankAsked request chip fits words → x ≡ outside → Says x b
   unfolding entriesOf
-  refused-both e f = rw (f, ← e) (refl, refl)
+  refused-bank e f = rw (f, ← e) (refl, refl)
 
-  pub both-no-chip : {x : Planned} → length chip ≢ 7 → x ≡ outside → Says x b
-  unfolding bothAsked
-  both-no-chip h = refused-both (rw (ne-eqb (length chip) 7 h))
+  pub bank-no-chip : {x : Planned} → length chip ≢ 7 → x ≡ outside → Says x b
+  unfolding bankAsked
+  bank-no-chip h = refused-bank (rw (ne-eqb (length chip) 7 h))
 
-  pub both-no-fit : {x : Planned} → length chip ≡ 7 → fits ≡ false → x ≡ outside → Says x b
-  unfolding bothAsked
-  both-no-fit h f = refused-both (rw (eq-eqb (length chip) 7 h, f))
+  pub bank-no-fit : {x : Planned} → length chip ≡ 7 → fits ≡ false → x ≡ outside → Says x b
+  unfolding bankAsked
+  bank-no-fit h f = refused-bank (rw (eq-eqb (length chip) 7 h, f))
 
-  as-both : length chip ≡ 7 → fits ≡ true → bankPlanOf request (chipFrom chip) words ≡ bothAsked request chip fits words
-  unfolding bothAsked
-  as-both h f = rw (eq-eqb (length chip) 7 h, f)
+  as-bank : length chip ≡ 7 → fits ≡ true → bankPlanOf request (chipFrom chip) words ≡ bankAsked request chip fits words
+  unfolding bankAsked
+  as-bank h f = rw (eq-eqb (length chip) 7 h, f)
 
-  pub both-done : {x : Planned} {c : Chip} {b₁ : List ℕ} → length chip ≡ 7 → fits ≡ true → c ≡ chipFrom chip → x ≡ bankPlanOf request c words → b₁ ≡ applyAll (entriesOf x) b → Says x b₁
-  both-done h f d e g = rw (g, e, d, as-both h f) (refl, refl)
+  pub bank-done : {x : Planned} {c : Chip} {b₁ : List ℕ} → length chip ≡ 7 → fits ≡ true → c ≡ chipFrom chip → x ≡ bankPlanOf request c words → b₁ ≡ applyAll (entriesOf x) b → Says x b₁
+  bank-done h f d e g = rw (g, e, d, as-bank h f) (refl, refl)

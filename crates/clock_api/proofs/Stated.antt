@@ -9,7 +9,7 @@ use Rattle.types.specs.declared.Answer.the-variants.{Refused}
 use Rattle.types.specs.declared.Planned.{Planned}
 use Rattle.rules.specs.Document01.Refusals.{codeOf}
 use Rattle.rules.proofs.Computes.{byRules}
-use Rattle.clock_api.specs.Calls.{chipFrom, askedOf, bankAsked, bothAsked, reportBy, listBy}
+use Rattle.clock_api.specs.Calls.{chipFrom, askedOf, bankAsked, reportBy, listBy}
 
 -- PLL count, odd P of PLL1, PLL2, PLL3, scale, HSION, HSIDIV
 pub seven-bytes : chipFrom (11 ∷ 12 ∷ 13 ∷ 14 ∷ 15 ∷ 16 ∷ 17 ∷ []) ≡ record { plls = 11; odd = 12 ∷ 13 ∷ 14 ∷ []; scale = 15; hsion = 16; hsidiv = 17 }
@@ -29,22 +29,14 @@ pub lengths :
 unfolding byRules askedOf
 lengths = refl
 
--- the bank call: a chip of another length is 1, before a bank of another length, which is 2
+-- the bank call: a report beside it or a chip of another length is 1, before a bank of another length, which is 2
 pub bank-lengths :
-    codeOf (bankAsked bytes chip 82 .answer) ∷ codeOf (bankAsked bytes chip 81 .answer) ∷ codeOf (bankAsked bytes chip 83 .answer)
-    ∷ codeOf (bankAsked bytes (0 ∷ chip) 82 .answer) ∷ codeOf (bankAsked bytes (0 ∷ chip) 81 .answer) ∷ []
-    ≡ 0 ∷ 2 ∷ 2 ∷ 1 ∷ 1 ∷ []
+    codeOf (bankAsked bytes chip true 82 .answer) ∷ codeOf (bankAsked bytes chip true 81 .answer) ∷ codeOf (bankAsked bytes chip true 83 .answer)
+    ∷ codeOf (bankAsked bytes chip false 82 .answer) ∷ codeOf (bankAsked bytes chip false 81 .answer)
+    ∷ codeOf (bankAsked bytes (0 ∷ chip) true 82 .answer) ∷ codeOf (bankAsked bytes (0 ∷ chip) true 81 .answer) ∷ []
+    ≡ 0 ∷ 2 ∷ 2 ∷ 1 ∷ 1 ∷ 1 ∷ 1 ∷ []
 unfolding byRules bankAsked
 bank-lengths = refl
-
--- clocks and bank: a report or a chip of another length is 1, before a bank of another length, which is 2
-pub both-lengths :
-    codeOf (bothAsked bytes chip true 82 .answer) ∷ codeOf (bothAsked bytes chip true 81 .answer) ∷ codeOf (bothAsked bytes chip true 83 .answer)
-    ∷ codeOf (bothAsked bytes chip false 82 .answer) ∷ codeOf (bothAsked bytes chip false 81 .answer)
-    ∷ codeOf (bothAsked bytes (0 ∷ chip) true 82 .answer) ∷ codeOf (bothAsked bytes (0 ∷ chip) true 81 .answer) ∷ []
-    ≡ 0 ∷ 2 ∷ 2 ∷ 1 ∷ 1 ∷ 1 ∷ 1 ∷ []
-unfolding byRules bothAsked
-both-lengths = refl
 
 -- a refusal changes no lent word
 pub refused-keeps : (n : Refusal) (x : Planned) (room : List ℕ) → reportBy (Refused n) x room ∷ listBy (Refused n) x room ∷ [] ≡ room ∷ room ∷ []

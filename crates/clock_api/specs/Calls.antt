@@ -30,13 +30,9 @@ outside = answered (Result.refused OutsideCodes)
 unfoldable pub askedOf : (request chip : List ℕ) → (fits : Bool) → Planned
 askedOf request chip fits = cond (eqb (length chip) 7 && fits) (planOf request (chipFrom chip)) outside
 
--- the bank call, where 2 judges the bank's length
-unfoldable pub bankAsked : (request chip : List ℕ) → (words : ℕ) → Planned
-bankAsked request chip words = cond (eqb (length chip) 7) (bankPlanOf request (chipFrom chip) words) outside
-
--- the bank call beside a report, where the report has its length; else refusal 1
-unfoldable pub bothAsked : (request chip : List ℕ) → (fits : Bool) → (words : ℕ) → Planned
-bothAsked request chip fits words = cond (eqb (length chip) 7 && fits) (bankPlanOf request (chipFrom chip) words) outside
+-- the bank call likewise: 2 judges the bank's length, after 1
+unfoldable pub bankAsked : (request chip : List ℕ) → (fits : Bool) → (words : ℕ) → Planned
+bankAsked request chip fits words = cond (eqb (length chip) 7 && fits) (bankPlanOf request (chipFrom chip) words) outside
 
 -- a plan is reported; a refusal changes no word
 abbrev pub reportBy : Answer → Planned → List ℕ → List ℕ

@@ -1,5 +1,6 @@
 // The C functions: docs/CODES.md, The C functions, and include/clock_api.h.
 ghost use mathlib.Core.Path.{_≡_};
+ghost use mathlib.Core.Bool.{true};
 ghost use lib.Dec.{eqb};
 ghost use lib.ListN.{length};
 ghost use Rattle.rules.specs.Document01.Entries.{entriesOf};
@@ -56,6 +57,20 @@ fn asked(request: &[u8], chip: &[u8], fits: bool) -> Planned
     rcc::plan(request, chip_from(chip))
 }
 
+// The planner's call with a bank, where the slice beside it has its length.
+fn bank_asked(request: &[u8], chip: &[u8], fits: bool, bank: &mut [u32]) -> Planned
+    ensures answer { λ r. ⌜ r ≡ bankAsked (now (request .entry)) (now (chip .entry)) fits (length (now (bank .entry))) ⌝ }
+    ensures bank { λ r. ⌜ now (bank .exit) ≡ applyAll (entriesOf (bankAsked (now (request .entry)) (now (chip .entry)) fits (length (now (bank .entry))))) (now (bank .entry)) ⌝ }
+{
+    if chip.len() != 7 {
+        return freeze::refused(Refusal::OutsideCodes);
+    }
+    if !fits {
+        return freeze::refused(Refusal::OutsideCodes);
+    }
+    rcc::plan_bank(request, chip_from(chip), bank)
+}
+
 // A plan's clocks, in 55 words.
 #[no_mangle]
 pub extern "C" fn clock_plan(request: &[u8], chip: &[u8], report: &mut [u32]) -> u32
@@ -108,13 +123,10 @@ fn list_by(x: Planned, list: &mut [u32]) -> u32
 // The whole list applied to a bank of 82 words.
 #[no_mangle]
 pub extern "C" fn clock_bank(request: &[u8], chip: &[u8], bank: &mut [u32]) -> u32
-    ensures code { λ r. ⌜ r ≡ codeOf (bankAsked (now (request .entry)) (now (chip .entry)) (length (now (bank .entry))) .answer) ⌝ }
-    ensures bank { λ r. ⌜ now (bank .exit) ≡ applyAll (entriesOf (bankAsked (now (request .entry)) (now (chip .entry)) (length (now (bank .entry))))) (now (bank .entry)) ⌝ }
+    ensures code { λ r. ⌜ r ≡ codeOf (bankAsked (now (request .entry)) (now (chip .entry)) true (length (now (bank .entry))) .answer) ⌝ }
+    ensures bank { λ r. ⌜ now (bank .exit) ≡ applyAll (entriesOf (bankAsked (now (request .entry)) (now (chip .entry)) true (length (now (bank .entry))))) (now (bank .entry)) ⌝ }
 {
-    if chip.len() != 7 {
-        return 1;
-    }
-    let x = rcc::plan_bank(request, chip_from(chip), bank);
+    let x = bank_asked(request, chip, true, bank);
     let answer = x.answer;
     refusal::code_of(answer)
 }

@@ -21,7 +21,7 @@ use Rattle.rules.specs.Manual.Path.{PllName, pll1, pll2, Path, num, den, extend
 use Rattle.rules.specs.Manual.Tree
 use Rattle.rules.specs.Manual.Tree.{Oscillator, off, runs, Chain, none, along, Output, P, Q, R, Clock, sys, hclk, pclk1, pclk2, pclk3, timx, timy, per, hsi, csi, hsi48, lsi, hse, mco1, mco2, output, number, divider, enable, word, pllWord, fromOscillator, switched, gated, over, among, vcoBy, timerBy, pathOf}
 use Rattle.exact.specs.declared.Reading.the-variants.{Exactly}
-use Rattle.rules.specs.Demands.Readings.{fedBy}
+use Rattle.rules.specs.Manual.Tree.{fedBy}
 use Rattle.rules.proofs.Manual.Codes.{by-timer}
 use Rattle.exact.specs.Exact.{cap, readingOf}
 use Rattle.exact.proofs.Cap.{max, cap-fits, cap-full}

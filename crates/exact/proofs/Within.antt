@@ -37,10 +37,10 @@ use Rattle.rules.specs.Document01.Entries.{outputEntries, fractionEntries, base
 use Rattle.rules.specs.Document01.Bank.{applyAll, resetBank}
 use Rattle.rules.specs.Manual.Path.{PllName, pll1, pll2, pll3}
 use Rattle.rules.specs.Manual.Tree.{number, word}
-use Rattle.rules.specs.Demands.Legal.{LegalOutput, LegalVco, LegalPll, LegalThird, LegalPlan}
+use Rattle.claims.specs.Demands.Legal.{LegalOutput, LegalVco, LegalPll, LegalThird, LegalPlan}
 use Rattle.rules.proofs.Document01.Ratios.{hpre-most, ppre-most}
 use Rattle.rules.proofs.Document01.Results.{Holds, holds-then, holds-next, holds-tested, holds-known}
-use Rattle.rules.proofs.Legal.Plan.{plan-legal}
+use Rattle.claims.proofs.Legal.Plan.{plan-legal}
 use Rattle.fields.proofs.Join.{apply-append}
 use Rattle.types.specs.declared.Bus.{Bus}
 use Rattle.types.specs.declared.Mco.{Mco}

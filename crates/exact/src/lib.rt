@@ -1,6 +1,6 @@
 // The manual's clock tree as code: from the words of a bank and the request's HSE hertz, the exact fraction of one clock. Document 01, The clock tree.
 ghost use mathlib.Core.Path.{_≡_};
-ghost use Rattle.rules.specs.Demands.Readings.{fedBy};
+ghost use Rattle.rules.specs.Manual.Tree.{fedBy};
 ghost use Rattle.exact.specs.Exact.{pathBy, readingOf};
 use buses::ahb;
 use buses::divided;

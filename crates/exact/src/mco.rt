@@ -3,7 +3,7 @@ ghost use mathlib.Core.Path.{_≡_};
 ghost use Rattle.rules.specs.Document01.Fields as Fields;
 ghost use Rattle.rules.specs.Manual.Tree as Tree;
 ghost use Rattle.rules.specs.Manual.Tree.{Chain, word as wordOf};
-ghost use Rattle.rules.specs.Demands.Readings.{fedBy};
+ghost use Rattle.rules.specs.Manual.Tree.{fedBy};
 ghost use Rattle.exact.specs.Exact.{readingOf};
 use crate::Reading;
 use crate::buses::sys;

@@ -2,7 +2,7 @@
 ghost use mathlib.Core.Path.{_≡_};
 ghost use Rattle.rules.specs.Manual.Tree as Tree;
 ghost use Rattle.rules.specs.Manual.Tree.{Oscillator, runs, switched, word as wordOf, fromOscillator};
-ghost use Rattle.rules.specs.Demands.Readings.{fedBy};
+ghost use Rattle.rules.specs.Manual.Tree.{fedBy};
 ghost use Rattle.exact.specs.Exact.{readingOf};
 use crate::Reading;
 use fields::HSEON;

@@ -4,7 +4,7 @@ ghost use Prim.Native.Nat.{_<_};
 ghost use Rattle.rules.specs.Manual.Path.{PllName};
 ghost use Rattle.rules.specs.Manual.Tree as Tree;
 ghost use Rattle.rules.specs.Manual.Tree.{Output, number, pllWord, divider, fromOscillator};
-ghost use Rattle.rules.specs.Demands.Readings.{fedBy};
+ghost use Rattle.rules.specs.Manual.Tree.{fedBy};
 ghost use Rattle.exact.specs.Exact.{readingOf};
 use crate::Reading;
 use crate::oscillators::CSI;

@@ -23,7 +23,7 @@ use Rattle.laws.proofs.Numbers.{le-div}
 use Rattle.rules.proofs.Document01.ChoiceOfM.{chosen-some}
 use Rattle.rules.proofs.Document01.Target.{target-le}
 use Rattle.rules.proofs.Document01.Span.{Pos, pos-is, Inside, Span, span}
-use Rattle.rules.proofs.Legal.OnePll.{Good, range-good, Divides, SomeDivider, divider-p, divider-q}
+use Rattle.claims.proofs.Legal.OnePll.{Good, range-good, Divides, SomeDivider, divider-p, divider-q}
 use Rattle.pll.specs.Answer.{afterSpan}
 use Rattle.pll.specs.Spans.{Spanned}
 use Rattle.pll.specs.Settle.{HasDivider, Settles, settledFor}

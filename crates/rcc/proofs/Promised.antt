@@ -7,10 +7,10 @@ use Rattle.types.specs.declared.Planned.{Planned}
 use Rattle.rules.specs.Document01.Plan.{planOf, bankPlanOf}
 use Rattle.rules.specs.Document01.Entries.{entriesOf}
 use Rattle.rules.specs.Document01.Bank.{applyAll}
-use Rattle.rules.specs.Demands.Rows.{AsRows}
-use Rattle.rules.specs.Demands.Refused.{planRows, bankRows}
-use Rattle.rules.specs.Demands.Calls.{planNumbers, bankNumbers, Answered, Kept, AsFreeze, IsLegal, ReadTwice, BankReadTwice}
-use Rattle.rules.proofs.Demands.{demand-1, demand-1-bank, demand-1-kept, demand-1-first, demand-1-first-bank, demand-2, demand-2-bank, demand-2-legal, demand-2-legal-bank, demand-3, demand-3-bank}
+use Rattle.claims.specs.Demands.Rows.{AsRows}
+use Rattle.claims.specs.Demands.Refused.{planRows, bankRows}
+use Rattle.claims.specs.Demands.Calls.{planNumbers, bankNumbers, Answered, Kept, AsFreeze, IsLegal, ReadTwice, BankReadTwice}
+use Rattle.claims.proofs.Demands.{demand-1, demand-1-bank, demand-1-kept, demand-1-first, demand-1-first-bank, demand-2, demand-2-bank, demand-2-legal, demand-2-legal-bank, demand-3, demand-3-bank}
 
 -- ---- the planner's call
 module _ (bytes : List ℕ) (chip : Chip) (x : Planned) (e : x ≡ planOf bytes chip) where

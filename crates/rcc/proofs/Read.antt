@@ -15,10 +15,10 @@ use Rattle.rules.specs.Document01.Plan.{Asked, requestOf, answered, answerTyped
 use Rattle.rules.specs.Document01.Entries.{entriesOf}
 use Rattle.rules.specs.Document01.Bank.{applyAll}
 use Rattle.rules.proofs.Document01.RefusalsOfCalls.{outside-codes}
-use Rattle.rules.proofs.Demands.{typed, with-bank}
+use Rattle.claims.proofs.Demands.{typed, with-bank}
 use Rattle.request.specs.declared.RequestRead.{RequestRead}
 use Rattle.request.specs.Request.{requestRead}
-use Rattle.rules.proofs.Refused.Calls.{third-fits}
+use Rattle.claims.proofs.Refused.Calls.{third-fits}
 
 -- what was read, as an Asked
 abbrev pub askedBy : Result Asked → Asked

@@ -8,7 +8,7 @@ use Rattle.types.specs.declared.Refusal.the-variants.{OutsideCodes}
 use Rattle.rules.specs.Document01.Result.{Result, refused, ok, _>>_, require}
 use Rattle.rules.specs.Document01.Chip.{isBit, isHsidiv, chipOf}
 use Rattle.request.specs.Chips.{oddsOk, chipOk}
-use Rattle.rules.specs.Demands.ByPlaces.{stateOf}
+use Rattle.claims.specs.Demands.ByPlaces.{stateOf}
 
 -- a test that refuses, then others that refuse alike, are one test
 then-test : {A : Type 0} (a b : Bool) (n : Refusal) (r : Result A) (x : A) → r ≡ cond b (ok x) (refused n) → (require a n >> r) ≡ cond (a && b) (ok x) (refused n)

@@ -27,7 +27,7 @@ use Rattle.rules.proofs.Document01.Results.{ok-same}
 use Rattle.rules.proofs.Document01.BytesWhole.{at-least, accepted-length, asked-by}
 use Rattle.request.specs.Parts.{codeOk, wordAt, hertzOk, hertzAt, flagAt, mco1At, mco2At, strategyAt, pllOk, partAt, thirdOk, thirdAt, pllsOk, formed, decoded}
 use Rattle.request.specs.Chips.{chipOk}
-use Rattle.rules.specs.Demands.ByPlaces.{stateOf}
+use Rattle.claims.specs.Demands.ByPlaces.{stateOf}
 use Rattle.request.specs.Request.{requestRead, blankRead, partOf, partRead, nothingRead}
 use Rattle.request.proofs.Chips.{chip-is}
 

@@ -4,7 +4,7 @@ ghost use mathlib.Core.Bool.{_||_};
 ghost use lib.Dec.{eqb, ltb};
 ghost use Rattle.rules.specs.Document01.Chip.{isHsidiv, hsidivOf, scaleOf};
 ghost use Rattle.request.specs.Chips.{chipOk, oddsOk};
-ghost use Rattle.rules.specs.Demands.ByPlaces.{stateOf};
+ghost use Rattle.claims.specs.Demands.ByPlaces.{stateOf};
 use types::Chip;
 use types::ChipState;
 use types::Hsidiv;

@@ -1,5 +1,5 @@
--- What a computed theorem opens, in one place: `unfolding byRules`, `unfolding byBank`, `unfolding byTree` and `unfolding byFreeze` open every
--- definition named here.
+-- What a computed theorem opens, in one place: `unfolding byRules`, `unfolding byBank` and `unfolding byTree` open every definition
+-- named here.
 use mathlib.Core.List.{List}
 use Prim.Native.Nat.{ℕ}
 use Rattle.types.specs.declared.Planned.{Planned}
@@ -17,9 +17,6 @@ use Rattle.rules.specs.Document01.Plan.{pllsOf, busesOf, mcosOf, planWit
 use Rattle.rules.specs.Document01.Entries.{settingEntries, clockEntries, busEntries, planEntries, entriesOf, listWith}
 use Rattle.rules.specs.Document01.Bank.{resetBank}
 use Rattle.rules.specs.Manual.Tree as Tree
-use Rattle.rules.specs.Rust.Pll.{key-of, min-from, min-by-key, search-m, target-setup, divider-setup, range-setup, vco-output-divider-setup, pll-divider-setup, calc-fracn, calc-vco-ck, vco-ck-of, write-pll, pll-setup}
-use Rattle.rules.specs.Rust.Mco.{calculate-prescaler}
-use Rattle.rules.specs.Rust.Rcc.{setters, mco1-setup, mco2-setup, sys-ck-from, sys-ck-setup, ppre-calculate, match-vos, flash-acr, flash-setup, plls-setup, match-per-ck, hclk-calculate, buses-calculate, mco1-in, mco2-in, mcos-calculate, start-clocks, start-plls, switch-clocks, clocks-of, freeze, frozen}
 use Rattle.rules.specs.Document01.Request.{configured}
 
 -- the rules, from bytes and from a typed request
@@ -36,8 +33,3 @@ byBank x = x
 unfoldable pub byTree : Planned → Planned
 unfolding byBank Tree.hsiOf Tree.csiOf Tree.hsi48Of Tree.lsiOf Tree.hseOf Tree.sourceOf Tree.vcoOf Tree.outputOf Tree.sysOf Tree.ahbOf Tree.perOf Tree.mco1Of Tree.mco2Of Tree.pathOf
 byTree x = x
-
--- the Rust's setters and freeze, beside the rules
-unfoldable pub byFreeze : Planned → Planned
-unfolding byRules frozen freeze setters mco1-setup mco2-setup sys-ck-from sys-ck-setup ppre-calculate match-vos flash-acr flash-setup plls-setup match-per-ck hclk-calculate buses-calculate mco1-in mco2-in mcos-calculate start-clocks start-plls switch-clocks clocks-of calculate-prescaler key-of min-from min-by-key search-m target-setup divider-setup range-setup vco-output-divider-setup pll-divider-setup calc-fracn calc-vco-ck vco-ck-of write-pll pll-setup
-byFreeze x = x

@@ -16,3 +16,4 @@ pub mod Walk
 pub mod Voltage
 pub mod ResetReason
 pub mod Run
+pub mod RoundedUp

@@ -1,14 +1,8 @@
 pub mod Document01
 pub mod Manual
-pub mod Legal
-pub mod Agreement
-pub mod Readings
 pub mod Samples
 pub mod Computes
 pub mod Settings
 pub mod EveryRefusal
 pub mod Differences
-pub mod Refused
 pub mod Stated
-pub mod Unweakened
-pub mod Demands

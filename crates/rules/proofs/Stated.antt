@@ -1,4 +1,6 @@
 pub mod Bank
+pub mod Manual
+pub mod List
 pub mod Chip
 pub mod Words
 pub mod Report

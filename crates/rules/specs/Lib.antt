@@ -1,6 +1,5 @@
 pub mod Document01
-pub mod Rust
 pub mod Manual
-pub mod Demands
+pub mod Stated
 pub mod Answers
 pub mod Words

@@ -1,2 +1,2 @@
-// What is right (specs/Document01), what the Rust does (specs/Rust), what the chip does (specs/Manual), what is promised (specs/Demands),
-// and the theorems between them (proofs). There is no code here.
+// What is right (specs/Document01), what the chip does (specs/Manual), and what the two documents state apart from what is computed
+// (specs/Stated, proofs/Stated). There is no code here.

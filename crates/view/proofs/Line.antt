@@ -10,7 +10,7 @@ use Rattle.laws.proofs.Tests.{by-test}
 use Rattle.types.specs.declared.Hertz.{Hertz}
 use Rattle.rules.specs.Document01.Entries.{bit}
 use Rattle.rules.specs.Manual.Tree.{word}
-use Rattle.rules.specs.Demands.Readings.{fedBy}
+use Rattle.rules.specs.Manual.Tree.{fedBy}
 use Rattle.exact.specs.Exact.{pathBy, readingOf}
 use Rattle.exact.specs.declared.Reading.{Reading}
 use Rattle.exact.specs.declared.Reading.the-variants.{Nothing, Exactly}

@@ -8,7 +8,7 @@ use Rattle.types.specs.declared.Hertz.{Hertz}
 use Rattle.rules.specs.Document01.Fields
 use Rattle.rules.specs.Document01.Entries.{bit}
 use Rattle.rules.specs.Manual.Tree.{word, among}
-use Rattle.rules.specs.Demands.Readings.{fedBy}
+use Rattle.rules.specs.Manual.Tree.{fedBy}
 use Rattle.exact.specs.Exact.{pathBy, readingOf}
 use Rattle.exact.specs.declared.Reading.{Reading}
 use Rattle.exact.specs.declared.Reading.the-variants.{Nothing, Exactly}

@@ -19,12 +19,12 @@ use Rattle.rules.specs.Document01.Result.{ok}
 use Rattle.rules.specs.Document01.Plan.{Asked, requestOf, planOf}
 use Rattle.rules.specs.Document01.Entries.{entriesOf, answerEntries}
 use Rattle.rules.specs.Document01.Walk.{Stand, before, ended, shownOf, passes, isCheck, steppedOf, freshBy, freshOf}
-use Rattle.rules.specs.Rust.Run.{ends}
-use Rattle.rules.specs.Rust.CoreClocks.{CoreClocks}
-use Rattle.rules.specs.Rust.Rcc.{frozen}
-use Rattle.rules.specs.Demands.Agreement.{AllowsEachP}
-use Rattle.rules.specs.Demands.Walks.{Pair, shows, Satisfy}
-use Rattle.rules.proofs.Demands.{demand-2-walk}
+use Rattle.claims.specs.Rust.Run.{ends}
+use Rattle.claims.specs.Rust.CoreClocks.{CoreClocks}
+use Rattle.claims.specs.Rust.Rcc.{frozen}
+use Rattle.claims.specs.Demands.Agreement.{AllowsEachP}
+use Rattle.rules.specs.Stated.Walks.{Pair, shows, Satisfy}
+use Rattle.claims.proofs.Demands.{demand-2-walk}
 use Rattle.walk.specs.declared.Walk.{Walk}
 use Rattle.walk.specs.Walk.{freshWalk, standAt, standOf, steppedBy, steppedWalk}
 

@@ -1,16 +1,15 @@
 -- `clock_api::clock_bank` meets its contract.
-use denote.Ref.{now}
-use Rattle.clock_api.proofs.Answers.{bank-kept, bank-done}
+use mathlib.Core.Path.{ap, _∙_}
+use Rattle.types.specs.declared.Planned.{Planned}
+use Rattle.rules.specs.Document01.Refusals.{codeOf}
 use borrow.Author.Needs.{needs}
 use Rattle.clock_api.proofs.clock_bank.Statement.{statement}
 use Rattle.clock_api.proofs.clock_bank.Tie as tie
 
 returns : tie.Need-returns
-returns c = bank-kept _ _ _ (now (c .before .before .before .before .args .bank)) (c .if1 .taken)
-
-returns-2 : tie.Need-returns-2
-returns-2 c = bank-done _ _ _ (now (c .before .before .before .before .before .before .before .before .before .before .args .bank)) (c .before .before .before .before .before .before .if1 .left) (c .before .before .before .before .before .chip-from .ensures) (c .before .before .before .plan-bank .ensures .0) (c .code-of .ensures) (c .before .before .before .plan-bank .ensures .1 .0)
+returns c =
+    let e = c .before .before .before .bank-asked .ensures in
+    (c .code-of .ensures ∙ ap (λ (z : Planned). codeOf (z .answer)) (e .0), e .1)
 
 pub clock-bank-spec : {M : Type 1} → statement M
-clock-bank-spec =
-    tie.close (tie.spec returns (λ c κs. search needs) (λ c κs. search needs) (λ c κs. search needs) (λ c. search needs) returns-2)
+clock-bank-spec = tie.close (tie.spec (λ c κs. search needs) (λ c κs. search needs) (λ c. search needs) returns)

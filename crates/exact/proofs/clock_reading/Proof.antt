@@ -3,7 +3,7 @@ use mathlib.Core.Path.{refl}
 use denote.Ref.{now}
 use Rattle.rules.specs.Manual.Path.{pll1, pll2, pll3}
 use Rattle.rules.specs.Manual.Tree.{P, Q, R, csiOf, hsi48Of, lsiOf, ahbOf, pathOf}
-use Rattle.rules.specs.Demands.Readings.{fedBy}
+use Rattle.rules.specs.Manual.Tree.{fedBy}
 use Rattle.exact.specs.Exact.{clocksBy}
 use Rattle.exact.proofs.Chains.{past, none-below}
 use borrow.Author.Needs.{needs}

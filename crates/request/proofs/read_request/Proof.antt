@@ -8,7 +8,7 @@ use Rattle.types.specs.declared.ChipState.{ChipState}
 use Rattle.rules.specs.Document01.Bytes.{sizeOf}
 use Rattle.rules.proofs.Document01.BytesWhole.{at-least}
 use Rattle.request.specs.Chips.{chipOk}
-use Rattle.rules.specs.Demands.ByPlaces.{stateOf}
+use Rattle.claims.specs.Demands.ByPlaces.{stateOf}
 use Rattle.request.proofs.Reading.{all-bytes, bad-chip, bad-size, bad-form, taken}
 use Rattle.request.proofs.read_request.Statement.{statement}
 use Rattle.request.proofs.read_request.Tie as tie

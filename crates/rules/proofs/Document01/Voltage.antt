@@ -16,7 +16,7 @@ use Rattle.types.specs.declared.Shown.{Shown}
 use Rattle.types.specs.declared.Shown.the-variants.{Next, Finished, Stopped}
 use Rattle.rules.specs.Document01.Fields
 use Rattle.rules.specs.Document01.Walk.{Stand, before, ended, shownOf, vosCode, voltageFresh, voltageTo, transition, afterRead, voltageStepped}
-use Rattle.rules.specs.Demands.Walks.{Pair, after, shows, Satisfy, VoltageReads}
+use Rattle.rules.specs.Stated.Walks.{Pair, after, shows, Satisfy, VoltageReads}
 use Rattle.rules.proofs.Document01.Walk.{both, any-left, any-again}
 
 -- a fresh walk shows the wait for ACTVOSRDY before any step; to a target above 3 it shows refusal 1

@@ -8,7 +8,7 @@ use Rattle.types.specs.declared.Entry.the-variants.{Set, Set2, Set3, Set4, Wait
 use Rattle.rules.specs.Document01.Fields
 use Rattle.rules.specs.Document01.Fields.{ofPll}
 use Rattle.rules.specs.Document01.Bank.{applyOne, applyAll, resetBank}
-use Rattle.rules.specs.Demands.Applied.{Value, _is_, lastOf, Applied}
+use Rattle.rules.specs.Stated.Applied.{Value, _is_, lastOf, Applied}
 use Rattle.rules.proofs.Document01.Last.{at-one, length-one}
 
 -- n numbers, from a place on

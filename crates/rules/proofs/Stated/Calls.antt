@@ -23,7 +23,7 @@ use Rattle.rules.specs.Document01.Request.{pllAt}
 use Rattle.rules.specs.Document01.Plan.{Asked, requestOf, bankPlanOf, answerTyped}
 use Rattle.rules.specs.Document01.ResetReason.{reasonBy, reasonOf, writeBackOf, Told, resetOf}
 use Rattle.rules.specs.Document01.Walk.{ended, shownOf, freshOf, steppedOf, voltageTo, voltageStepped}
-use Rattle.rules.specs.Demands.Walks.{Pair, shows, Always}
+use Rattle.rules.specs.Stated.Walks.{Pair, shows, Always}
 use Rattle.rules.proofs.Computes.{byRules}
 use Rattle.rules.proofs.Samples.{nothing, chip, none, pll, plls3, state, state3}
 use Rattle.rules.proofs.Document01.Walk.{ended-always}

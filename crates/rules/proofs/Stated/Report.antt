@@ -1,53 +1,28 @@
--- The report's 55 words in the order of docs/CODES.md: 26 clocks, each as (0 or 1, hertz), then PPRE1 to PPRE3. Tied clock by clock to what a
--- plan reports, and once in numbers.
+-- The report's 55 words in the order of docs/CODES.md, in numbers: 26 clocks, each as (0 or 1, hertz), then PPRE1 to PPRE3.
 use mathlib.Core.Path.{_≡_, refl}
 use mathlib.Core.Bool.{true}
-use mathlib.Core.List.{List, [], _∷_, _++_, append-assoc}
+use mathlib.Core.List.{List, [], _∷_, _++_}
 use Prim.Native.Nat.{ℕ}
-use lib.ListN.{length, replicate}
+use lib.ListN.{replicate}
 use Rattle.types.specs.declared.Hertz.{Hertz}
 use Rattle.types.specs.declared.Hertz.the-variants.{Unset, Hz}
 use Rattle.types.specs.declared.Plan.{Plan}
 use Rattle.rules.specs.Document01.Plan.{answerTo, blankPlan}
 use Rattle.rules.specs.Document01.Entries.{bit}
-use Rattle.rules.specs.Words.{hertzWords, reportWords}
-use Rattle.rules.specs.Rust.CoreClocks.{CoreClocks}
-use Rattle.rules.specs.Manual.Path.{pll1, pll2, pll3}
-use Rattle.rules.specs.Manual.Tree.{P, Q, R, sys, hclk, pclk1, pclk2, pclk3, timx, timy, per, hsi, csi, hsi48, lsi, hse, mco1, mco2, output}
-use Rattle.rules.specs.Demands.Report.{reported, hertzOf}
+use Rattle.rules.specs.Words.{reportWords}
 use Rattle.rules.proofs.Computes.{byRules}
 use Rattle.rules.proofs.Samples.{fullest, state3}
 
 -- a clock: not there, or its hertz
-abbrev clock : Hertz → List ℕ
+abbrev pub clock : Hertz → List ℕ
 clock Unset = 0 ∷ 0 ∷ []
 clock (Hz h) = 1 ∷ h ∷ []
 
-abbrev all : List Hertz → List ℕ
+abbrev pub all : List Hertz → List ℕ
 all [] = []
 all (h ∷ hs) = clock h ++ all hs
 
--- docs/CODES.md: sys, hclk, pclk1, pclk2, pclk3, timx, timy, per, hsi, csi, hsi48, lsi, hse, lse, audio, mco1, mco2, then P, Q, R of each PLL
-abbrev ordered : CoreClocks → List Hertz
-ordered k =
-    hertzOf k sys ∷ hertzOf k hclk ∷ hertzOf k pclk1 ∷ hertzOf k pclk2 ∷ hertzOf k pclk3 ∷ hertzOf k timx ∷ hertzOf k timy ∷ hertzOf k per
-    ∷ hertzOf k hsi ∷ hertzOf k csi ∷ hertzOf k hsi48 ∷ hertzOf k lsi ∷ hertzOf k hse ∷ k .lse-ck ∷ k .audio-ck ∷ hertzOf k mco1 ∷ hertzOf k mco2
-    ∷ hertzOf k (output pll1 P) ∷ hertzOf k (output pll1 Q) ∷ hertzOf k (output pll1 R)
-    ∷ hertzOf k (output pll2 P) ∷ hertzOf k (output pll2 Q) ∷ hertzOf k (output pll2 R)
-    ∷ hertzOf k (output pll3 P) ∷ hertzOf k (output pll3 Q) ∷ hertzOf k (output pll3 R) ∷ []
-
-pub twenty-six : (k : CoreClocks) → length (ordered k) ≡ 26
-twenty-six k = refl
-
-one-clock : (h : Hertz) (ws : List ℕ) → hertzWords h ws ≡ clock h ++ ws
-one-clock Unset ws = refl
-one-clock (Hz h) ws = refl
-
--- for every plan
-pub in-this-order : (p : Plan) → reportWords p ≡ all (ordered (reported p)) ++ (reported p .ppre1 ∷ reported p .ppre2 ∷ reported p .ppre3 ∷ [])
-in-this-order p = simp (one-clock, append-assoc)
-
--- ---- in numbers: HSE 8,000,000, LSE, audio, three PLLs with all their outputs but one, both MCOs
+-- HSE 8,000,000, LSE, audio, three PLLs with all their outputs but one, both MCOs
 pub fifty-five : reportWords (answerTo (fullest (Hz 32_768) (Hz 49_152_000) Unset) (state3 true true true) .plan)
     ≡ 1 ∷ 250_000_000 ∷ 1 ∷ 125_000_000 ∷ 1 ∷ 31_250_000 ∷ 1 ∷ 15_625_000 ∷ 1 ∷ 7_812_500 ∷ 1 ∷ 62_500_000 ∷ 1 ∷ 31_250_000 ∷ 1 ∷ 8_000_000
     ∷ 1 ∷ 32_000_000 ∷ 1 ∷ 4_000_000 ∷ 1 ∷ 48_000_000 ∷ 1 ∷ 32_000 ∷ 1 ∷ 8_000_000 ∷ 1 ∷ 32_768 ∷ 1 ∷ 49_152_000 ∷ 1 ∷ 12_500_000 ∷ 1 ∷ 25_000_000

@@ -7,6 +7,8 @@ use mathlib.Core.List.{List, [], _∷_}
 use Prim.Native.Nat.{ℕ, zero, suc, _+_, _/_}
 use lib.Dec.{eqb}
 use lib.ListN.{getD}
+use Rattle.types.specs.declared.Hertz.{Hertz}
+use Rattle.types.specs.declared.Hertz.the-variants.{Unset, Hz}
 use Rattle.rules.specs.Document01.Fields
 use Rattle.rules.specs.Document01.Fields.{ofPll}
 use Rattle.rules.specs.Manual.Path.{PllName, pll1, pll2, pll3, whole, part, Path, direct, through, extend}
@@ -15,6 +17,11 @@ use Rattle.rules.specs.Manual.Path.{PllName, pll1, pll2, pll3, whole, pa
 pub data Oscillator : Type 0 where
   off : Oscillator
   runs : ℕ → Oscillator
+
+-- the crystal at HSE, by its hertz
+abbrev pub fedBy : Hertz → Oscillator
+fedBy Unset = off
+fedBy (Hz h) = runs h
 
 -- what the tree gives for a clock
 pub data Chain : Type 0 where

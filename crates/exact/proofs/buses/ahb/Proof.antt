@@ -1,7 +1,7 @@
 -- `exact::buses::ahb` meets its contract.
 use denote.Ref.{now}
 use Rattle.rules.specs.Manual.Tree.{sysOf, ahbOf}
-use Rattle.rules.specs.Demands.Readings.{fedBy}
+use Rattle.rules.specs.Manual.Tree.{fedBy}
 use borrow.Author.Needs.{needs}
 use Rattle.exact.proofs.buses.ahb.Statement.{statement}
 use Rattle.exact.proofs.buses.ahb.Tie as tie

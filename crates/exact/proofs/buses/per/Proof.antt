@@ -1,7 +1,7 @@
 -- `exact::buses::per` meets its contract.
 use mathlib.Core.List.{[], _∷_}
 use Rattle.rules.specs.Manual.Tree.{csiOf, perOf}
-use Rattle.rules.specs.Demands.Readings.{fedBy}
+use Rattle.rules.specs.Manual.Tree.{fedBy}
 use Rattle.exact.proofs.Chains.{past, none-below}
 use borrow.Author.Needs.{needs}
 use Rattle.exact.proofs.buses.per.Statement.{statement}

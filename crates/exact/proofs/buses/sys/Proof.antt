@@ -3,7 +3,7 @@ use mathlib.Core.Path.{refl}
 use mathlib.Core.List.{[], _∷_}
 use Rattle.rules.specs.Manual.Path.{pll1}
 use Rattle.rules.specs.Manual.Tree.{P, csiOf, sysOf}
-use Rattle.rules.specs.Demands.Readings.{fedBy}
+use Rattle.rules.specs.Manual.Tree.{fedBy}
 use Rattle.exact.proofs.Chains.{past, none-below}
 use borrow.Author.Needs.{needs}
 use Rattle.exact.proofs.buses.sys.Statement.{statement}

@@ -2,7 +2,7 @@
 use mathlib.Core.Path.{_∙_}
 use denote.Ref.{now}
 use Rattle.rules.specs.Manual.Tree.{ahbOf}
-use Rattle.rules.specs.Demands.Readings.{fedBy}
+use Rattle.rules.specs.Manual.Tree.{fedBy}
 use borrow.Author.Needs.{needs}
 use Rattle.exact.proofs.buses.timer.Statement.{statement}
 use Rattle.exact.proofs.buses.timer.Tie as tie

@@ -4,7 +4,7 @@ use mathlib.Core.List.{[], _∷_}
 use denote.Ref.{now}
 use Rattle.rules.specs.Manual.Path.{pll1}
 use Rattle.rules.specs.Manual.Tree.{none, Q, fromOscillator, hsiOf, hsi48Of, hseOf, outputOf, mco1Of}
-use Rattle.rules.specs.Demands.Readings.{fedBy}
+use Rattle.rules.specs.Manual.Tree.{fedBy}
 use Rattle.exact.proofs.Chains.{over-past, none-below}
 use borrow.Author.Needs.{needs}
 use Rattle.exact.proofs.mco.mco1_source.Statement.{statement}

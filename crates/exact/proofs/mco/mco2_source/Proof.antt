@@ -4,7 +4,7 @@ use mathlib.Core.List.{[], _∷_}
 use denote.Ref.{now}
 use Rattle.rules.specs.Manual.Path.{pll1, pll2}
 use Rattle.rules.specs.Manual.Tree.{none, P, fromOscillator, csiOf, lsiOf, hseOf, outputOf, sysOf, mco2Of}
-use Rattle.rules.specs.Demands.Readings.{fedBy}
+use Rattle.rules.specs.Manual.Tree.{fedBy}
 use Rattle.exact.proofs.Chains.{over-past, none-below}
 use borrow.Author.Needs.{needs}
 use Rattle.exact.proofs.mco.mco2_source.Statement.{statement}

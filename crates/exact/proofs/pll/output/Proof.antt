@@ -4,7 +4,7 @@ use denote.Ref.{now}
 use Prim.Native.Nat.{_+_}
 use native.Mathlib.Omega.{arith}
 use Rattle.rules.specs.Manual.Tree.{Output, P, Q, R, divider, enable, vcoOf, outputOf}
-use Rattle.rules.specs.Demands.Readings.{fedBy}
+use Rattle.rules.specs.Manual.Tree.{fedBy}
 use Rattle.exact.proofs.Chains.{gated-on}
 use borrow.Author.Needs.{needs}
 use Rattle.exact.proofs.pll.output.Statement.{statement}

@@ -1,7 +1,7 @@
 -- `exact::pll::source` meets its contract.
 use mathlib.Core.List.{[], _∷_}
 use Rattle.rules.specs.Manual.Tree.{csiOf, sourceOf}
-use Rattle.rules.specs.Demands.Readings.{fedBy}
+use Rattle.rules.specs.Manual.Tree.{fedBy}
 use Rattle.exact.proofs.Chains.{past-source, none-below}
 use borrow.Author.Needs.{needs}
 use Rattle.exact.proofs.pll.source.Statement.{statement}

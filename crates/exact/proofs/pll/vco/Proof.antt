@@ -1,7 +1,7 @@
 -- `exact::pll::vco` meets its contract.
 use denote.Ref.{now}
 use Rattle.rules.specs.Manual.Tree.{sourceOf, vcoOf}
-use Rattle.rules.specs.Demands.Readings.{fedBy}
+use Rattle.rules.specs.Manual.Tree.{fedBy}
 use borrow.Author.Needs.{needs}
 use Rattle.exact.proofs.pll.vco.Statement.{statement}
 use Rattle.exact.proofs.pll.vco.Tie as tie
