@@ -1,8 +1,6 @@
 // The words of the command line: arguments one after the other, and for @FILE what the file has.
 ghost use Prim.Native.Nat.{_≤_};
 ghost use lib.ListN.{length};
-use crate::help;
-use crate::wrong;
 use text::Number;
 
 // A byte at a place, where there is room for it; the place behind it.
@@ -72,12 +70,12 @@ pub fn first(words: &[u8]) -> usize {
 // The page of a refusal, or the words: the number stands behind help and a blank, and a blank stands behind it.
 pub fn help(words: &[u8]) {
     if words.len() < 7 {
-        wrong::usage();
+        help::usage();
         return;
     }
     let end = words.len() - 1;
     match text::whole(&words[5..end]) {
         Number::Is(number) => help::page(number),
-        Number::Wrong => wrong::usage(),
+        Number::Wrong => help::usage(),
     }
 }

@@ -1,11 +1,7 @@
 // The planner from the command line: a request in words, planned and shown. README.md; docs/CODES.md, A request in words.
-mod help;
+mod answer;
 mod input;
-mod list;
-mod page;
-mod print;
 mod refused;
-mod wrong;
 
 fn main() {
     let mut words = io::buffer();
@@ -20,7 +16,7 @@ fn main() {
 // Help, or a request.
 fn run(words: &[u8]) {
     match input::first(words) {
-        0 => wrong::usage(),
+        0 => help::usage(),
         1 => input::help(words),
         _ => plan(words),
     }
@@ -31,8 +27,8 @@ fn plan(words: &[u8]) {
     let mut sheet = sheet::fresh();
     let taken = ask::take_all(&mut sheet, words);
     if taken.wrong != 0 {
-        wrong::word(words, taken);
+        help::wrong_word(words, taken);
         return;
     }
-    page::show(sheet);
+    answer::show(sheet);
 }

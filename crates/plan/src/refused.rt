@@ -1,5 +1,4 @@
 // A refusal: its number, and the word that it is about.
-use crate::print;
 
 // The names of the keys, by their numbers.
 fn keys(form: &[u8], numbers: &[u64]) {

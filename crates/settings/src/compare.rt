@@ -3,8 +3,7 @@ ghost use Prim.Native.Nat.{_≤_};
 ghost use lib.ListN.{length};
 use crate::found;
 use crate::found::Found;
-use crate::print;
-use crate::print::say;
+use print::say;
 use text::Number;
 
 // How many numbers and settings are compared, and how many numbers differ; the letter of the last setting.
@@ -54,7 +53,7 @@ fn row(t: Tally, k: usize, stated: u32, two: u32, three: u32) -> Tally {
     if three != stated {
         differs = 1;
     }
-    print::line(
+    found::line(
         b"{0|}{12:1}{14:2}{14:3}{4?}  differs{.}\n",
         &[k as u64, stated as u64, two as u64, three as u64, differs],
     );

@@ -16,6 +16,12 @@ pub fn names() -> [u8; 228] {
     mco1pre     "
 }
 
+// A template with its numbers, over these names.
+pub fn line(form: &[u8], numbers: &[u64]) {
+    let all = names();
+    print::line(form, &all, numbers);
+}
+
 // The number of a name; 19 where it is none.
 pub fn name_number(name: &[u8]) -> usize {
     let all = names();

@@ -14,14 +14,11 @@ pub fn agrees(t: &mut [u64; 9], did: u32, entries: u32) {
 }
 
 fn say(form: &[u8], numbers: &[u64]) {
-    let mut out = [0u8; 512];
-    let n = template::fill(
+    print::line(
         form,
         b"realistic   boundary    full-range  damaged     ",
         numbers,
-        &mut out,
     );
-    io::write_all(1, &out[..n]);
 }
 
 // Record k differs: its kind and both answers, 0 for a plan and another number for a refusal.

@@ -1,8 +1,8 @@
--- `plan::page::clocks` meets its contract.
+-- `page::clocks` meets its contract.
 use Prim.Native.Nat.{_-_}
 use borrow.Author.Needs.{needs}
-use Rattle.plan.proofs.page.clocks.Statement.{statement}
-use Rattle.plan.proofs.page.clocks.Tie as tie
+use Rattle.page.proofs.clocks.Statement.{statement}
+use Rattle.page.proofs.clocks.Tie as tie
 
 abbrev Inv-loop : tie.InvT-loop
 Inv-loop report bank hse k₀ t7 k = Unit

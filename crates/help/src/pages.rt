@@ -1,5 +1,5 @@
 // The pages of docs/help, one for each refusal. scripts/make-help writes this file from them.
-use crate::print::say;
+use print::say;
 
 fn page_1() {
     say(

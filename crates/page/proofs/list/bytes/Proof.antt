@@ -1,10 +1,10 @@
--- `plan::list::bytes` meets its contract.
+-- `page::list::bytes` meets its contract.
 use mathlib.Core.Path.{_≡_}
 use Prim.Native.Nat.{_-_}
 use lib.ListN.{length}
 use borrow.Author.Needs.{needs}
-use Rattle.plan.proofs.list.bytes.Statement.{statement}
-use Rattle.plan.proofs.list.bytes.Tie as tie
+use Rattle.page.proofs.list.bytes.Statement.{statement}
+use Rattle.page.proofs.list.bytes.Tie as tie
 
 abbrev Inv-loop : tie.InvT-loop
 Inv-loop request i₀ t4 t5 i-end i = i-end ≡ length request

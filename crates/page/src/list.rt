@@ -1,5 +1,4 @@
 // What else is shown: the entries in order, the bank, or the bytes of the request.
-use crate::print;
 use entries::EntryAt;
 use types::Planned;
 

@@ -1,14 +1,17 @@
-// A sheet planned, and its plan: every reported clock, the PLLs, the wait states.
-use crate::help;
-use crate::list;
-use crate::print;
-use crate::print::wide;
-use crate::refused;
-use types::Answer;
+// A plan's page: every reported clock, the PLLs, the wait states; then what else is asked for.
+ghost use Prim.Native.Nat.{_<_};
 use types::Hertz;
 use types::Plan;
 use types::Planned;
 use types::Pll;
+
+mod list;
+
+fn wide(n: u32) -> u64
+    ensures { λ r. ⌜ r < 4294967296 ⌝ }
+{
+    n as u64
+}
 
 fn clocks(report: &[u32], bank: &[u32], hse: Hertz) {
     print::say(b"clock            hertz  from\n");
@@ -35,7 +38,8 @@ fn pll(n: u32, x: Pll, src: u32) {
     }
 }
 
-fn plan(x: Planned, bank: [u32; 82]) {
+// The clocks, the PLLs and the wait states.
+pub fn plan(x: Planned, bank: [u32; 82]) {
     let p = x.plan;
     let reported = p.clocks;
     let hse = reported.hse;
@@ -63,23 +67,7 @@ fn plan(x: Planned, bank: [u32; 82]) {
     );
 }
 
-// What the planner answers to a sheet, in a bank at reset values.
-fn ask_planner(sheet: &[u8], bank: &mut [u32]) -> Planned {
-    let n = sheet::request_length(sheet);
-    rcc::plan_bank(&sheet[..n], sheet::chip(sheet), bank)
-}
-
-// The plan, or the refusal with its page; then what else is asked for.
-pub fn show(sheet: [u8; 115]) {
-    let mut bank = fields::reset_bank();
-    let x = ask_planner(&sheet, &mut bank);
-    let a = x.answer;
-    match a {
-        Answer::Accepted => plan(x, bank),
-        Answer::Refused(m) => {
-            refused::show(sheet, refusal::number_of(m));
-            help::page(refusal::number_of(m));
-        }
-    }
-    list::show(x, bank, &sheet);
+// The entries, the bank or the request's bytes, by the sheet's byte behind the chip.
+pub fn also(x: Planned, bank: [u32; 82], sheet: &[u8]) {
+    list::show(x, bank, sheet);
 }

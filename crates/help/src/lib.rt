@@ -1,7 +1,15 @@
-// What there is to say of a wrong word, and of no word at all.
-use crate::print::say;
+// What there is to say of a refusal, of a wrong word, and of no word at all.
 use ask::Taken;
+use print::say;
 
+mod pages;
+
+// The page of a refusal.
+pub fn page(number: u32) {
+    pages::page(number);
+}
+
+// The words that there are.
 pub fn usage() {
     say(
         b"plan WORD...      plan a request and show the plan, or the refusal
@@ -55,7 +63,7 @@ fn right(wrong: u32) {
 }
 
 // A wrong word, and what would be right.
-pub fn word(words: &[u8], taken: Taken) {
+pub fn wrong_word(words: &[u8], taken: Taken) {
     let from = taken.from;
     let to = taken.to;
     say(b"plan: ");

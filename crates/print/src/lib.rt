@@ -1,11 +1,4 @@
 // Lines of text: templates with their numbers, written to standard output.
-ghost use Prim.Native.Nat.{_<_};
-
-pub fn wide(n: u32) -> u64
-    ensures { λ r. ⌜ r < 4294967296 ⌝ }
-{
-    n as u64
-}
 
 pub fn say(text: &[u8]) {
     io::write_all(1, text);
@@ -13,7 +6,7 @@ pub fn say(text: &[u8]) {
 
 // A template with its numbers, over a table of names.
 pub fn line(form: &[u8], names: &[u8], numbers: &[u64]) {
-    let mut out = [0u8; 256];
+    let mut out = [0u8; 512];
     let n = template::fill(form, names, numbers, &mut out);
     io::write_all(1, &out[..n]);
 }

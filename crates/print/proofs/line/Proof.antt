@@ -1,9 +1,9 @@
--- `plan::print::line` meets its contract.
+-- `print::line` meets its contract.
 use mathlib.Core.Path.{sym}
 use borrow.Author.Needs.{needs}
 use lib.Seq.{length-take-le}
-use Rattle.plan.proofs.print.line.Statement.{statement}
-use Rattle.plan.proofs.print.line.Tie as tie
+use Rattle.print.proofs.line.Statement.{statement}
+use Rattle.print.proofs.line.Tie as tie
 
 slice-aggregate-write-all : tie.Need-slice-aggregate-write-all
 slice-aggregate-write-all c = sym (length-take-le (c .before .before .fill .result) _ (search needs))

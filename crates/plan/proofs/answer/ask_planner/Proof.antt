@@ -1,9 +1,9 @@
--- `plan::page::ask_planner` meets its contract.
+-- `plan::answer::ask_planner` meets its contract.
 use denote.Ref.{now}
 use Rattle.sheet.proofs.Length.{request-is-long}
 use borrow.Author.Needs.{needs}
-use Rattle.plan.proofs.page.ask_planner.Statement.{statement}
-use Rattle.plan.proofs.page.ask_planner.Tie as tie
+use Rattle.plan.proofs.answer.ask_planner.Statement.{statement}
+use Rattle.plan.proofs.answer.ask_planner.Tie as tie
 
 slice-aggregate-plan-bank : tie.Need-slice-aggregate-plan-bank
 slice-aggregate-plan-bank c = request-is-long (now (c .before .before .before .before .args .sheet)) _ (c .before .request-length .ensures)

@@ -1,9 +1,9 @@
--- `plan::list::show` meets its contract.
+-- `page::list::show` meets its contract.
 use denote.Ref.{now}
 use Rattle.sheet.proofs.Length.{request-is-long}
 use borrow.Author.Needs.{needs}
-use Rattle.plan.proofs.list.show.Statement.{statement}
-use Rattle.plan.proofs.list.show.Tie as tie
+use Rattle.page.proofs.list.show.Statement.{statement}
+use Rattle.page.proofs.list.show.Tie as tie
 
 slice-aggregate-bytes : tie.Need-slice-aggregate-bytes
 slice-aggregate-bytes c = request-is-long (now (c .before .before .before .before .before .args .sheet)) _ (c .before .before .before .request-length .ensures)

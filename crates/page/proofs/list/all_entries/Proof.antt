@@ -1,12 +1,12 @@
--- `plan::list::all_entries` meets its contract.
+-- `page::list::all_entries` meets its contract.
 use mathlib.Core.Path.{_≡_}
 use Prim.Native.Nat.{_-_}
 use lib.ListN.{length}
 use Rattle.rules.specs.Document01.Entries.{entriesOf}
 use Rattle.rules.proofs.Document01.Length.{at-most}
 use borrow.Author.Needs.{needs}
-use Rattle.plan.proofs.list.all_entries.Statement.{statement}
-use Rattle.plan.proofs.list.all_entries.Tie as tie
+use Rattle.page.proofs.list.all_entries.Statement.{statement}
+use Rattle.page.proofs.list.all_entries.Tie as tie
 
 abbrev Inv-loop : tie.InvT-loop
 Inv-loop x i₀ i-end i = i-end ≡ length (entriesOf x)

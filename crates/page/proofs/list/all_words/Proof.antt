@@ -1,8 +1,8 @@
--- `plan::list::all_words` meets its contract.
+-- `page::list::all_words` meets its contract.
 use Prim.Native.Nat.{_≤_, _-_}
 use borrow.Author.Needs.{needs}
-use Rattle.plan.proofs.list.all_words.Statement.{statement}
-use Rattle.plan.proofs.list.all_words.Tie as tie
+use Rattle.page.proofs.list.all_words.Statement.{statement}
+use Rattle.page.proofs.list.all_words.Tie as tie
 
 abbrev Inv-loop : tie.InvT-loop
 Inv-loop bank f₀ t5 t6 f = f ≤ 82
