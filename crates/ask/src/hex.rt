@@ -57,7 +57,7 @@ fn is_hex(v: &[u8]) -> bool
 }
 
 // The bytes, from a place on, as far as there is room.
-fn store(sheet: &mut [u8], at: usize, v: &[u8])
+fn store_hex(sheet: &mut [u8], at: usize, v: &[u8])
     requires { ⌜ (isHex (now v) ≡ true) × (at + length (now v) / 2 ≤ 106) ⌝ }
     ensures { λ _. ⌜ now (sheet .exit) ≡ sets (now (sheet .entry)) at (hexBytes (now (v .entry))) ⌝ }
 {
@@ -86,7 +86,7 @@ pub fn take_bytes(sheet: &mut [u8], v: &[u8]) -> u32
 {
     let at = text::byte_at(sheet, 114, 0) as usize;
     if has_room(at, v) {
-        store(sheet, at, v);
+        store_hex(sheet, at, v);
         crate::put(sheet, 114, (at + v.len() / 2) as u8);
         return 0;
     }

@@ -9,10 +9,10 @@ use Rattle.types.specs.declared.Refusal.the-variants.{AhbZero, McoRatio, Outsid
 use Rattle.types.specs.declared.ResetReason.the-variants.{PowerOnReset, PinReset, SystemReset, WindowWatchdogReset, IndependentWatchdogReset, GenericWatchdogReset, IllegalStopEntryReset, Unknown}
 use Rattle.types.specs.declared.Bus.{Bus}
 use Rattle.types.specs.declared.Mco.{Mco}
-use Rattle.rules.specs.Document01.Result.{refused, ok}
-use Rattle.reset_reason.specs.declared.ResetAnswer.{ResetAnswer}
+use Rattle.rules.specs.Document01.Result.{Result, refused, ok}
+use Rattle.rules.specs.Document01.ResetReason.{Told}
 use Rattle.clock_leaves.specs.Leaves.{fracnCode, vcoCode, waitsFor, waitsCode, hertzIn, leafCode, busRoom, mcoRoom, leafFits}
-use Rattle.clock_leaves.specs.Reasons.{reasonCode, reasonAnswer, reasonRoom}
+use Rattle.clock_leaves.specs.Reasons.{reasonCode, reasonRoom}
 
 -- 0 power-on, 1 pin, 2 system, 3 window watchdog, 4 independent watchdog, 5 either watchdog, 6 illegal stop entry, 7 unknown
 pub reasons : map reasonCode (PowerOnReset ∷ PinReset ∷ SystemReset ∷ WindowWatchdogReset ∷ IndependentWatchdogReset ∷ GenericWatchdogReset ∷ IllegalStopEntryReset ∷ Unknown 9 ∷ [])
@@ -23,12 +23,15 @@ reasons = refl
 abbrev three : List ℕ
 three = 70 ∷ 71 ∷ 72 ∷ []
 
+abbrev system : Result Told
+system = ok (record { reason = SystemReset; writeBack = 12 })
+
 pub reset-words :
-    reasonRoom true (ResetAnswer.Reason SystemReset 12) 11 three ∷ reasonRoom false (ResetAnswer.Reason SystemReset 12) 11 three ∷ reasonRoom true (ResetAnswer.Refused OutsideCodes) 11 three ∷ []
+    reasonRoom true system 11 three ∷ reasonRoom false system 11 three ∷ reasonRoom true (refused OutsideCodes) 11 three ∷ []
     ≡ (2 ∷ 11 ∷ 12 ∷ []) ∷ three ∷ three ∷ []
 reset-words = refl
 
-pub reset-codes : reasonAnswer true (ResetAnswer.Reason SystemReset 12) ∷ reasonAnswer false (ResetAnswer.Reason SystemReset 12) ∷ reasonAnswer true (ResetAnswer.Refused OutsideCodes) ∷ [] ≡ 0 ∷ 1 ∷ 1 ∷ []
+pub reset-codes : leafCode true system ∷ leafCode false system ∷ leafCode {A = Told} true (refused OutsideCodes) ∷ [] ≡ 0 ∷ 1 ∷ 1 ∷ []
 reset-codes = refl
 
 -- FRACN 0 to 8191, or 8192 out of range; latency + 8 × delay, or 255

@@ -4,9 +4,9 @@ use mathlib.Core.List.{List, [], _∷_}
 use Prim.Native.Nat.{ℕ}
 use Rattle.types.specs.declared.ResetReason.{ResetReason}
 use Rattle.types.specs.declared.ResetReason.the-variants.{PowerOnReset, PinReset, SystemReset, WindowWatchdogReset, IndependentWatchdogReset, GenericWatchdogReset, IllegalStopEntryReset, Unknown}
-use Rattle.rules.specs.Document01.Refusals.{numberOf}
+use Rattle.rules.specs.Document01.Result.{Result, refused, ok}
+use Rattle.rules.specs.Document01.ResetReason.{Told}
 use Rattle.rules.specs.Words.{storedFrom}
-use Rattle.reset_reason.specs.declared.ResetAnswer.{ResetAnswer}
 
 -- in the order of reset_reason.rs
 abbrev pub reasonCode : ResetReason → ℕ
@@ -19,14 +19,8 @@ reasonCode GenericWatchdogReset = 5
 reasonCode IllegalStopEntryReset = 6
 reasonCode (Unknown word) = 7
 
--- refusal 1 where the slice has not three words; else 0, or the refusal's number
-abbrev pub reasonAnswer : (fits : Bool) → ResetAnswer → ℕ
-reasonAnswer false x = 1
-reasonAnswer true (ResetAnswer.Refused n) = numberOf n
-reasonAnswer true (ResetAnswer.Reason r back) = 0
-
 -- the reason, the word as read, and the word to write back; a refusal changes no word
-abbrev pub reasonRoom : (fits : Bool) → ResetAnswer → (word : ℕ) → List ℕ → List ℕ
+abbrev pub reasonRoom : (fits : Bool) → Result Told → (word : ℕ) → List ℕ → List ℕ
 reasonRoom false x word room = room
-reasonRoom true (ResetAnswer.Refused n) word room = room
-reasonRoom true (ResetAnswer.Reason r back) word room = storedFrom room 0 (reasonCode r ∷ word ∷ back ∷ [])
+reasonRoom true (refused n) word room = room
+reasonRoom true (ok t) word room = storedFrom room 0 (reasonCode (t .reason) ∷ word ∷ t .writeBack ∷ [])

@@ -3,10 +3,10 @@ ghost use mathlib.Core.Path.{_≡_};
 ghost use lib.Dec.{eqb};
 ghost use lib.ListN.{length};
 ghost use Rattle.rules.specs.Document01.ResetReason.{resetOf};
-ghost use Rattle.reset_reason.specs.ResetReason.{resetAnswer};
-ghost use Rattle.clock_leaves.specs.Reasons.{reasonCode, reasonAnswer, reasonRoom};
+ghost use Rattle.clock_leaves.specs.Leaves.{leafCode};
+ghost use Rattle.clock_leaves.specs.Reasons.{reasonCode, reasonRoom};
 use crate::three;
-use reset_reason::ResetAnswer;
+use types::ResetAnswer;
 use types::ResetReason;
 
 fn reason_code(r: ResetReason) -> u32
@@ -27,8 +27,8 @@ fn reason_code(r: ResetReason) -> u32
 // The reset reason, the word as read and the word to write back, in three words.
 #[no_mangle]
 pub extern "C" fn clock_reset_reason(plls: u32, word: u32, out: &mut [u32]) -> u32
-    ensures code { λ r. ⌜ r ≡ reasonAnswer (eqb (length (now (out .entry))) 3) (resetAnswer (resetOf plls word)) ⌝ }
-    ensures out { λ r. ⌜ now (out .exit) ≡ reasonRoom (eqb (length (now (out .entry))) 3) (resetAnswer (resetOf plls word)) word (now (out .entry)) ⌝ }
+    ensures code { λ r. ⌜ r ≡ leafCode (eqb (length (now (out .entry))) 3) (resetOf plls word) ⌝ }
+    ensures out { λ r. ⌜ now (out .exit) ≡ reasonRoom (eqb (length (now (out .entry))) 3) (resetOf plls word) word (now (out .entry)) ⌝ }
 {
     if out.len() != 3 {
         return 1;

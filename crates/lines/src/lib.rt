@@ -8,7 +8,7 @@ ghost use Rattle.rules.specs.Manual.Tree.{word as wordOf};
 ghost use Rattle.lines.specs.Lines.{pllLine, entryLine, wordLine, byteLine};
 
 // A word, as a number of a line.
-fn word(s: &[u32], k: usize) -> u64
+fn wide(s: &[u32], k: usize) -> u64
     ensures { λ r. ⌜ r ≡ wordOf (now (s .entry)) k ⌝ }
 {
     fields::word(s, k) as u64
@@ -54,13 +54,13 @@ pub fn pll_line(n: u32, src: u32, words: &[u32]) -> [u64; 9]
     [
         n as u64,
         feed(src),
-        word(words, 2),
-        word(words, 3),
-        word(words, 5),
-        word(words, 6),
-        word(words, 7),
-        word(words, 8),
-        30 + word(words, 0),
+        wide(words, 2),
+        wide(words, 3),
+        wide(words, 5),
+        wide(words, 6),
+        wide(words, 7),
+        wide(words, 8),
+        30 + wide(words, 0),
     ]
 }
 
@@ -70,15 +70,15 @@ pub fn entry_line(i: u32, words: &[u32]) -> [u64; 10]
 {
     [
         i as u64 + 1,
-        82 + word(words, 0),
-        word(words, 1),
-        word(words, 2),
-        word(words, 3),
-        word(words, 4),
-        word(words, 5),
-        word(words, 6),
-        word(words, 7),
-        word(words, 8),
+        82 + wide(words, 0),
+        wide(words, 1),
+        wide(words, 2),
+        wide(words, 3),
+        wide(words, 4),
+        wide(words, 5),
+        wide(words, 6),
+        wide(words, 7),
+        wide(words, 8),
     ]
 }
 
@@ -87,7 +87,7 @@ pub fn word_line(bank: &[u32], f: u32) -> [u64; 4]
     ensures { λ r. ⌜ r ≡ wordLine (now (bank .entry)) f ⌝ }
 {
     let k = f as usize;
-    [f as u64, f as u64 + 1, word(bank, k), same(k % 3, 2)]
+    [f as u64, f as u64 + 1, wide(bank, k), same(k % 3, 2)]
 }
 
 // Byte i of a request.

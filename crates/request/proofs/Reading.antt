@@ -21,11 +21,11 @@ use Rattle.types.specs.declared.PllRequest.{PllRequest}
 use Rattle.rules.specs.Document01.Chip.{chipOf}
 use Rattle.rules.specs.Document01.Result as Result
 use Rattle.rules.specs.Document01.Result.{Result, refused, ok}
-use Rattle.rules.specs.Document01.Bytes.{Read, Reader, _>>=_, return, mco1Sources, mco2Sources, byte, end, code, word, setTo, hertz, flag, mco1Source, mco2Source, strategy, pllPart, thirdPart, requestPart, sizeOf, AllBytes}
+use Rattle.rules.specs.Document01.Bytes.{Read, Reader, _>>=_, return, mco1Sources, mco2Sources, byte, end, code, u32le, setTo, hertz, flag, mco1Source, mco2Source, strategy, pllPart, thirdPart, requestPart, sizeOf, AllBytes}
 use Rattle.rules.specs.Document01.Plan.{Asked, requestOf}
 use Rattle.rules.proofs.Document01.Results.{ok-same}
 use Rattle.rules.proofs.Document01.BytesWhole.{at-least, accepted-length, asked-by}
-use Rattle.request.specs.Parts.{codeOk, wordAt, hertzOk, hertzAt, flagAt, mco1At, mco2At, strategyAt, pllOk, partAt, thirdOk, thirdAt, pllsOk, formed, decoded}
+use Rattle.request.specs.Parts.{codeOk, u32leAt, hertzOk, hertzAt, flagAt, mco1At, mco2At, strategyAt, pllOk, partAt, thirdOk, thirdAt, pllsOk, formed, decoded}
 use Rattle.request.specs.Chips.{chipOk}
 use Rattle.claims.specs.Demands.ByPlaces.{stateOf}
 use Rattle.request.specs.Request.{requestRead, blankRead, partOf, partRead, nothingRead}
@@ -63,9 +63,9 @@ code-part n = record {
       (by-test (ltb (getD l i 0) n) (λ (t : ltb (getD l i 0) n ≡ true). rw t) (λ (t : ltb (getD l i 0) n ≡ false). rw t));
 }
 
-word-part : Part word 4 (λ l i. true) wordAt
-unfolding word byte wordAt
-word-part = record {
+u32le-part : Part u32le 4 (λ l i. true) u32leAt
+unfolding u32le byte u32leAt
+u32le-part = record {
   reads = λ l i h.
       let e1 : suc i ≡ i + 1 = omega arith in
       let e2 : suc (i + 1) ≡ i + 2 = omega arith in
@@ -85,7 +85,7 @@ hertz-part = record {
   reads = λ l i h.
       let e : i + 1 + 4 ≡ i + 5 = omega arith in
       stage (code-part 2) _ l i _ _ (omega arith) λ t.
-      rw (word-part .reads l (i + 1) (omega arith), e) (set-to (getD l i 0) (wordAt l (i + 1)) (drop (i + 5) l) (ltb-true (getD l i 0) 2 t));
+      rw (u32le-part .reads l (i + 1) (omega arith), e) (set-to (getD l i 0) (u32leAt l (i + 1)) (drop (i + 5) l) (ltb-true (getD l i 0) 2 t));
 }
 
 -- a code that names a value

@@ -20,16 +20,16 @@ abbrev pub codeOk : (n : ℕ) → List ℕ → ℕ → Bool
 codeOk n l i = ltb (getD l i 0) n
 
 -- 4 bytes, little-endian
-unfoldable pub wordAt : List ℕ → ℕ → ℕ
-wordAt l i = getD l i 0 + 256 * getD l (i + 1) 0 + 65_536 * getD l (i + 2) 0 + 16_777_216 * getD l (i + 3) 0
+unfoldable pub u32leAt : List ℕ → ℕ → ℕ
+u32leAt l i = getD l i 0 + 256 * getD l (i + 1) 0 + 65_536 * getD l (i + 2) 0 + 16_777_216 * getD l (i + 3) 0
 
 -- each hertz is a byte 0 or 1 and 4 bytes, all 0 if unset
 unfoldable pub hertzOk : List ℕ → ℕ → Bool
-hertzOk l i = ltb (getD l i 0) 2 && (eqb (getD l i 0) 1 || eqb (wordAt l (i + 1)) 0)
+hertzOk l i = ltb (getD l i 0) 2 && (eqb (getD l i 0) 1 || eqb (u32leAt l (i + 1)) 0)
 
 -- a hertz
 unfoldable pub hertzAt : List ℕ → ℕ → Hertz
-hertzAt l i = cond (eqb (getD l i 0) 0) Unset (Hz (wordAt l (i + 1)))
+hertzAt l i = cond (eqb (getD l i 0) 0) Unset (Hz (u32leAt l (i + 1)))
 
 -- three hertz in a row
 abbrev pub threeOk : List ℕ → ℕ → Bool

@@ -13,7 +13,7 @@ fn hertz_ok(b: &[u8], at: usize) -> bool
     ensures { λ r. ⌜ r ≡ hertzOk (now (b .entry)) at ⌝ }
 {
     let set = b[at];
-    let number = parts::word_at(b, at + 1);
+    let number = parts::u32le_at(b, at + 1);
     (set < 2) & ((set == 1) | (number == 0))
 }
 

@@ -3,7 +3,7 @@ ghost use mathlib.Core.Path.{_≡_};
 ghost use Prim.Native.Nat.{_+_, _*_, _<_, _≤_};
 ghost use lib.ListN.{length};
 ghost use Rattle.rules.specs.Document01.Bytes.{noPart, sizeOf};
-ghost use Rattle.request.specs.Parts.{wordAt, hertzAt, mco1At, mco2At, strategyAt, partAt, thirdAt, decoded};
+ghost use Rattle.request.specs.Parts.{u32leAt, hertzAt, mco1At, mco2At, strategyAt, partAt, thirdAt, decoded};
 use types::Hertz;
 use types::Mco1Source;
 use types::Mco2Source;
@@ -12,25 +12,25 @@ use types::Request;
 use types::Strategy;
 
 // The number of four bytes, the low one first.
-fn word_of(a: u8, b: u8, c: u8, d: u8) -> u32
+fn u32le_of(a: u8, b: u8, c: u8, d: u8) -> u32
     ensures { λ r. ⌜ r ≡ a + 256 * b + 65_536 * c + 16_777_216 * d ⌝ }
 {
     (a as u32) + 256 * (b as u32) + 65_536 * (c as u32) + 16_777_216 * (d as u32)
 }
 
 // Four bytes, little-endian.
-pub fn word_at(b: &[u8], at: usize) -> u32
+pub fn u32le_at(b: &[u8], at: usize) -> u32
     requires { ⌜ at + 4 ≤ length (now b) ⌝ }
-    ensures { λ r. ⌜ r ≡ wordAt (now (b .entry)) at ⌝ }
+    ensures { λ r. ⌜ r ≡ u32leAt (now (b .entry)) at ⌝ }
 {
-    word_of(b[at], b[at + 1], b[at + 2], b[at + 3])
+    u32le_of(b[at], b[at + 1], b[at + 2], b[at + 3])
 }
 
 fn hertz_at(b: &[u8], at: usize) -> Hertz
     requires { ⌜ at + 5 ≤ length (now b) ⌝ }
     ensures { λ r. ⌜ r ≡ hertzAt (now (b .entry)) at ⌝ }
 {
-    let number = word_at(b, at + 1);
+    let number = u32le_at(b, at + 1);
     if b[at] == 0 {
         return Hertz::Unset;
     }

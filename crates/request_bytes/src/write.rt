@@ -5,7 +5,7 @@ ghost use mathlib.Core.List.{_∷_};
 ghost use Prim.Native.Nat.{_+_, _≤_};
 ghost use lib.ListN.{length};
 ghost use Rattle.rules.specs.Document01.Mco.{mco1Code, mco2Code};
-ghost use Rattle.rules.specs.Document01.Bytes.{wordBytes, hertzBytes, flagByte, strategyCode, pllBytes, thirdBytes, sizeOf};
+ghost use Rattle.rules.specs.Document01.Bytes.{u32leBytes, hertzBytes, flagByte, strategyCode, pllBytes, thirdBytes, sizeOf};
 ghost use Rattle.request_bytes.specs.Writing.{isWritten, Stored, threeBytes, clocksBytes, outputsBytes, pllsBytes};
 ghost use Rattle.rules.specs.Document01.Bytes.{isUnset, isInteger, isNoPart};
 use types::Hertz;
@@ -121,9 +121,9 @@ fn mco2_code(s: Mco2Source) -> u8
 }
 
 // A byte and a word, little-endian.
-fn put_word(out: &mut [u8], at: usize, set: u8, n: u32)
+fn put_u32le(out: &mut [u8], at: usize, set: u8, n: u32)
     requires { ⌜ at + 5 ≤ length (now out) ⌝ }
-    ensures { λ r. ⌜ Stored (now (out .entry)) (now (out .exit)) at (set ∷ wordBytes n) ⌝ }
+    ensures { λ r. ⌜ Stored (now (out .entry)) (now (out .exit)) at (set ∷ u32leBytes n) ⌝ }
 {
     out[at] = set;
     out[at + 1] = (n % 256) as u8;
@@ -137,8 +137,8 @@ fn put_hertz(out: &mut [u8], at: usize, h: Hertz)
     ensures { λ r. ⌜ Stored (now (out .entry)) (now (out .exit)) at (hertzBytes h) ⌝ }
 {
     match h {
-        Hertz::Unset => put_word(out, at, 0, 0),
-        Hertz::Hz(n) => put_word(out, at, 1, n),
+        Hertz::Unset => put_u32le(out, at, 0, 0),
+        Hertz::Hz(n) => put_u32le(out, at, 1, n),
     }
 }
 

@@ -2,8 +2,9 @@
 ghost use mathlib.Core.Path.{_≡_};
 ghost use mathlib.Core.Bool.{false};
 ghost use Rattle.rules.specs.Document01.ResetReason.{reasonOf, writeBackOf, resetOf};
-ghost use Rattle.reset_reason.specs.ResetReason.{resetAnswer};
+ghost use Rattle.rules.specs.Answers.{resetResult};
 use types::Refusal;
+use types::ResetAnswer;
 use types::ResetReason;
 
 // The flags of RCC_RSR from bit 26 up, with PIN first: the sets that tell a reason.
@@ -20,12 +21,6 @@ const PIN_WWDG: u32 = PIN + 16;
 const PIN_LPWR: u32 = PIN + 32;
 
 const PIN_IWDG_WWDG: u32 = PIN + 8 + 16;
-
-// The reason with the word to write back, or a refusal.
-pub enum ResetAnswer {
-    Refused(Refusal),
-    Reason(ResetReason, u32),
-}
 
 // The reason by the six flags, on two PLLs.
 fn reason_of(word: u32) -> ResetReason
@@ -55,7 +50,7 @@ fn write_back_of(word: u32) -> u32
 
 // A word of RCC_RSR on a chip with so many PLLs; on three the reason is always unknown.
 pub fn reset_reason(plls: u32, word: u32) -> ResetAnswer
-    ensures { λ r. ⌜ r ≡ resetAnswer (resetOf plls word) ⌝ }
+    ensures { λ r. ⌜ resetResult r ≡ resetOf plls word ⌝ }
 {
     let back = write_back_of(word);
     if plls == 2 {

@@ -3,7 +3,7 @@
 use mathlib.Core.List.{List}
 use Prim.Native.Nat.{ℕ}
 use Rattle.types.specs.declared.Planned.{Planned}
-use Rattle.rules.specs.Document01.Bytes.{byte, end, code, word, hertz, flag, mco1Source, mco2Source, strategy, pllPart, requestPart, requestBytes}
+use Rattle.rules.specs.Document01.Bytes.{byte, end, code, u32le, hertz, flag, mco1Source, mco2Source, strategy, pllPart, requestPart, requestBytes}
 use Rattle.rules.specs.Document01.Chip.{chipOf}
 use Rattle.rules.specs.Document01.Hertz.{ratioOf}
 use Rattle.rules.specs.Document01.Target.{topOf, targetOf}
@@ -21,7 +21,7 @@ use Rattle.rules.specs.Document01.Request.{configured}
 
 -- the rules, from bytes and from a typed request
 unfoldable pub byRules : Planned → Planned
-unfolding byte end code word hertz flag mco1Source mco2Source strategy pllPart requestPart requestBytes chipOf requestOf planOf bankPlanOf answerTo chosenPlan blankPlan pllsOf configured pllOf runs spanned dividedBy settled chosenM bestTo betterOf inRange shortfallOf targetOf topOf fracnOf vcoOf busesOf ahbOf apbOf ratioOf mcosOf mco1Input mco2Input mcoOf planWith flashOf atColumn timerOf peripheralOf lib.Ieee.span lib.Ieee.climb lib.Ieee.size lib.Ieee.odd lib.Ieee.units lib.Ieee.round lib.Ieee.neg lib.Ieee.sum lib.Ieee.add lib.Ieee.sub lib.Ieee.mul lib.Ieee.div lib.Ieee.lt lib.Ieee.eq lib.Ieee.le lib.Ieee.ofInt lib.Ieee.toUnsigned
+unfolding byte end code u32le hertz flag mco1Source mco2Source strategy pllPart requestPart requestBytes chipOf requestOf planOf bankPlanOf answerTo chosenPlan blankPlan pllsOf configured pllOf runs spanned dividedBy settled chosenM bestTo betterOf inRange shortfallOf targetOf topOf fracnOf vcoOf busesOf ahbOf apbOf ratioOf mcosOf mco1Input mco2Input mcoOf planWith flashOf atColumn timerOf peripheralOf lib.Ieee.span lib.Ieee.climb lib.Ieee.size lib.Ieee.odd lib.Ieee.units lib.Ieee.round lib.Ieee.neg lib.Ieee.sum lib.Ieee.add lib.Ieee.sub lib.Ieee.mul lib.Ieee.div lib.Ieee.lt lib.Ieee.eq lib.Ieee.le lib.Ieee.ofInt lib.Ieee.toUnsigned
 byRules x = x
 
 -- the list, and the bank that it leaves

@@ -12,8 +12,10 @@ use Rattle.types.specs.declared.BusesAnswer.{BusesAnswer}
 use Rattle.types.specs.declared.InputAnswer.{InputAnswer}
 use Rattle.types.specs.declared.McoAnswer.{McoAnswer}
 use Rattle.types.specs.declared.McosAnswer.{McosAnswer}
+use Rattle.types.specs.declared.ResetAnswer.{ResetAnswer}
 use Rattle.rules.specs.Document01.Result.{Result, refused, ok}
 use Rattle.rules.specs.Document01.Refusals.{numberOf}
+use Rattle.rules.specs.Document01.ResetReason.{Told}
 
 -- step 4: one PLL, with refusals 7 to 15
 abbrev pub pllResult : PllAnswer → Result Pll
@@ -44,6 +46,11 @@ mcoResult (McoAnswer.Refused n) = refused n
 abbrev pub mcosResult : McosAnswer → Result Mcos
 mcosResult (McosAnswer.Prescaled m) = ok m
 mcosResult (McosAnswer.Refused n) = refused n
+
+-- the reset reason with the word to write back, with refusal 1
+abbrev pub resetResult : ResetAnswer → Result Told
+resetResult (ResetAnswer.Reason r back) = ok (record { reason = r; writeBack = back })
+resetResult (ResetAnswer.Refused n) = refused n
 
 -- ---- for a C function
 -- what it returns: 0, or the refusal's number

@@ -61,7 +61,7 @@ fn row(t: Tally, k: usize, stated: u32, two: u32, three: u32) -> Tally {
 }
 
 // A word of what is stated: a name, = and a number.
-fn word(t: Tally, word: &[u8], two: [u32; 19], three: [u32; 19]) -> Tally {
+fn pair(t: Tally, word: &[u8], two: [u32; 19], three: [u32; 19]) -> Tally {
     let sign = end_of(word, 0, b'=');
     let k = found::name_number(&word[0..sign]);
     if sign == word.len() {
@@ -98,7 +98,7 @@ fn words(t: Tally, words: &[u8], two: [u32; 19], three: [u32; 19]) -> Tally {
     let mut from = 0;
     while from < words.len() {
         let to = end_of(words, from, b' ');
-        sum = word(sum, &words[from..to], two, three);
+        sum = pair(sum, &words[from..to], two, three);
         from = to + 1;
     }
     sum

@@ -310,3 +310,9 @@ pub enum ResetReason {
     IllegalStopEntryReset,
     Unknown(u32),
 }
+
+// The reason with the word to write back, or a refusal.
+pub enum ResetAnswer {
+    Refused(Refusal),
+    Reason(ResetReason, u32),
+}

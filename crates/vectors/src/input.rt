@@ -10,14 +10,14 @@ pub fn byte(fd: i32) -> u32 {
     of(bytes[0])
 }
 
-pub fn half(fd: i32) -> u32 {
+pub fn u16le(fd: i32) -> u32 {
     let low = byte(fd);
     low | byte(fd) << 8
 }
 
-pub fn word(fd: i32) -> u32 {
-    let low = half(fd);
-    low | half(fd) << 16
+pub fn u32le(fd: i32) -> u32 {
+    let low = u16le(fd);
+    low | u16le(fd) << 16
 }
 
 // 1 where something stands behind the last record.

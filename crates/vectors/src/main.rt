@@ -8,7 +8,7 @@ mod tally;
 fn main() {
     let fd = os::open_read(b"answers.bin");
     let mut t = [0u64; 9];
-    let count = input::word(fd);
+    let count = input::u32le(fd);
     for k in 0..count {
         record::replay(fd, k, &mut t);
     }

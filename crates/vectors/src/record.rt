@@ -1,7 +1,7 @@
 // One record: a request, its chip and the Rust's answer, against the planner's.
 use crate::input::byte;
-use crate::input::half;
-use crate::input::word;
+use crate::input::u16le;
+use crate::input::u32le;
 use crate::tally;
 use types::Answer;
 use types::Chip;
@@ -63,7 +63,7 @@ fn same(fd: i32, x: Planned, did: u32, entries: u32) -> bool {
 fn wide(fd: i32, words: &[u32; 2304]) -> bool {
     let mut same = true;
     for k in 0..55 {
-        if words[k] != word(fd) {
+        if words[k] != u32le(fd) {
             same = false;
         }
     }
@@ -75,7 +75,7 @@ fn narrow(fd: i32, words: &[u32; 2304], entries: u32) -> bool {
     let mut same = words[0] == entries;
     let n = (entries % 256) as usize * 9;
     for k in 0..n {
-        if words[k + 1] != half(fd) {
+        if words[k + 1] != u16le(fd) {
             same = false;
         }
     }

@@ -1,7 +1,7 @@
 // The reset reason of every set of the six flags, on two PLLs.
 use crate::print::named;
 use crate::print::say;
-use reset_reason::ResetAnswer;
+use types::ResetAnswer;
 use types::ResetReason;
 
 pub fn all() {

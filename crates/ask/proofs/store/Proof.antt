@@ -4,7 +4,6 @@ use Prim.Native.Nat.{_-_}
 use native.Mathlib.Omega.{arith}
 use Rattle.text.proofs.Stores.{Storing, begins, same-length as same-length-of, goes-on, ends}
 use borrow.Author.Needs.{needs}
-use Rattle.ask.proofs.store.Statement.{statement}
 use Rattle.ask.proofs.store.Tie as tie
 
 abbrev Inv-loop : tie.InvT-loop
@@ -28,7 +27,7 @@ same-length c = same-length-of _ _ _ _ _ (c .before .loop .inv)
 returns : tie.Need-returns Inv-loop μ-loop
 returns c = ends _ _ _ _ _ (c .before .loop .inv) (c .loop-test .left)
 
-pub store-spec : {M : Type 1} → statement M
+pub store-spec : {M : Type 1} → Rattle.ask.proofs.store.Statement.statement M
 store-spec =
     tie.close (tie.spec Inv-loop μ-loop loop-holds add-put (λ c. search needs) (λ c κs. tt) (λ c. search needs) (λ c. search needs)
     loop-again same-length returns)

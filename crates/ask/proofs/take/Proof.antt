@@ -6,7 +6,6 @@ use Rattle.text.proofs.Parts.{before-part, before-long, behind-part}
 use Rattle.ask.proofs.Keys.{sound-of}
 use Rattle.ask.proofs.Sheets.{sign-within, bytes-taken, said-taken}
 use borrow.Author.Needs.{needs}
-use Rattle.ask.proofs.take.Statement.{statement}
 use Rattle.ask.proofs.take.Tie as tie
 
 slice-aggregate-key-number : tie.Need-slice-aggregate-key-number
@@ -36,7 +35,7 @@ put-said-requires c κs = sound-of (now (c .before .before .before .before .befo
 returns-2 : tie.Need-returns-2
 returns-2 c = let a = c .before .before .before .before .before .before .before .before .before .before .before .before .args in said-taken (now (a .sheet)) (now (a .word)) (sym (c .before .before .before .before .before .before .is-bytes .ensures) ∙ c .before .before .before .before .before .if1 .left) (c .before .before .before .said-by .ensures) (c .before .before .put-said .ensures .0) (c .before .before .put-said .ensures .1)
 
-pub take-spec : {M : Type 1} → statement M
+pub take-spec : {M : Type 1} → Rattle.ask.proofs.take.Statement.statement M
 take-spec =
     tie.close (tie.spec (λ c κs. tt) slice-aggregate-key-number (λ c κs. tt) is-bytes-requires add-from sub-take-bytes part-take-bytes-start
     (λ c. search needs) (λ c κs. tt) (λ c. search needs) returns said-by-requires put-said-requires (λ c. search needs) returns-2)

@@ -5,7 +5,6 @@ use Prim.Native.Nat.{_-_}
 use lib.ListN.{length}
 use Rattle.ask.proofs.Taking.{Going, begins, ends, passes, some, inside, same-still, goes-on, stops}
 use borrow.Author.Needs.{needs}
-use Rattle.ask.proofs.take_all.Statement.{statement}
 use Rattle.ask.proofs.take_all.Tie as tie
 
 abbrev Inv-loop : tie.InvT-loop
@@ -47,7 +46,7 @@ same-length-2 c = c .before .loop .inv .same
 returns-2 : tie.Need-returns-2 Inv-loop μ-loop
 returns-2 c = ends _ _ _ _ (c .before .loop .inv) (c .loop-test .left)
 
-pub take-all-spec : {M : Type 1} → statement M
+pub take-all-spec : {M : Type 1} → Rattle.ask.proofs.take_all.Statement.statement M
 take-all-spec =
     tie.close (tie.spec Inv-loop μ-loop loop-holds (λ c. search needs) (λ c. search needs) (λ c. search needs) loop-again (λ c κs. tt)
     sub-take part-take-start part-take-end (λ c κs. tt) same-length returns loop-less-2 loop-again-2 same-length-2 returns-2)

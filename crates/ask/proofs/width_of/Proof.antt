@@ -1,6 +1,5 @@
 -- `ask::width_of` meets its contract.
 use borrow.Author.Tests.{ne-eqb}
-use Rattle.ask.proofs.width_of.Statement.{statement}
 use Rattle.ask.proofs.width_of.Tie as tie
 
 returns : tie.Need-returns
@@ -15,5 +14,5 @@ returns-3 c = rw (c .if3 .taken)
 returns-4 : tie.Need-returns-4
 returns-4 c = rw (ne-eqb _ _ (c .before .before .if1 .left), ne-eqb _ _ (c .before .if2 .left), ne-eqb _ _ (c .if3 .left))
 
-pub width-of-spec : {M : Type 1} → statement M
+pub width-of-spec : {M : Type 1} → Rattle.ask.proofs.width_of.Statement.statement M
 width-of-spec = tie.close (tie.spec returns returns-2 returns-3 returns-4)

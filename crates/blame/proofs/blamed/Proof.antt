@@ -5,7 +5,6 @@ use borrow.Author.Needs.{needs}
 use Rattle.ask.specs.Sheet.{withoutKey}
 use Rattle.blame.proofs.Tried.{Tried, starts, found, goes-on, ends}
 use Rattle.blame.specs.Blame.{startFor, refusalOn, withoutOne, blamedOf}
-use Rattle.blame.proofs.blamed.Statement.{statement}
 use Rattle.blame.proofs.blamed.Tie as tie
 
 abbrev Inv-loop : tie.InvT-loop
@@ -28,7 +27,7 @@ returns-2 : tie.Need-returns-2 Inv-loop μ-loop
 unfolding blamedOf
 returns-2 c = ends _ _ (c .before .loop .i) (c .before .loop .inv .1) (c .loop-test .left)
 
-pub blamed-spec : {M : Type 1} → statement M
+pub blamed-spec : {M : Type 1} → Rattle.blame.proofs.blamed.Statement.statement M
 blamed-spec =
     tie.close (tie.spec Inv-loop μ-loop (λ c κs. search needs) (λ c κs. search needs) loop-holds (λ c κs. search needs)
     (λ c κs. search needs) (λ c κs. search needs) returns (λ c. search needs) (λ c. search needs) loop-again returns-2)

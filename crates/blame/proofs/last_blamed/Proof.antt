@@ -5,7 +5,6 @@ use Prim.Native.Nat.{ℕ, _+_, _-_}
 use borrow.Author.Needs.{needs}
 use Rattle.blame.proofs.Tried.{Tried, starts, found, goes-on, ends, whole, less}
 use Rattle.blame.specs.Blame.{startFor, refusalOn, withoutAll, lastBlamedOf}
-use Rattle.blame.proofs.last_blamed.Statement.{statement}
 use Rattle.blame.proofs.last_blamed.Tie as tie
 
 -- the sheet of place i
@@ -32,7 +31,7 @@ returns-2 : tie.Need-returns-2 Inv-loop μ-loop
 unfolding lastBlamedOf
 returns-2 c = ends _ _ (c .before .loop .i) (c .before .loop .inv .2) (c .loop-test .left)
 
-pub last-blamed-spec : {M : Type 1} → statement M
+pub last-blamed-spec : {M : Type 1} → Rattle.blame.proofs.last_blamed.Statement.statement M
 last-blamed-spec =
     tie.close (tie.spec Inv-loop μ-loop (λ c κs. search needs) (λ c κs. search needs) loop-holds (λ c κs. search needs)
     (λ c κs. search needs) (λ c κs. search needs) returns (λ c. search needs) (λ c. search needs) loop-again returns-2)

@@ -17,7 +17,7 @@ use Rattle.types.specs.declared.Request.{Request}
 use Rattle.types.specs.declared.Refusal.the-variants.{OutsideCodes}
 use Rattle.rules.specs.Document01.Result as Result
 use Rattle.rules.specs.Document01.Result.{Result, refused, ok}
-use Rattle.rules.specs.Document01.Bytes.{Read, Reader, _>>=_, _>>_, return, fits, byte, end, code, word, setTo, hertz, flag, mco1Sources, mco1Source, mco2Sources, mco2Source, strategy, pllPart, noPart, thirdPart, requestPart}
+use Rattle.rules.specs.Document01.Bytes.{Read, Reader, _>>=_, _>>_, return, fits, byte, end, code, u32le, setTo, hertz, flag, mco1Sources, mco1Source, mco2Sources, mco2Source, strategy, pllPart, noPart, thirdPart, requestPart}
 use Rattle.claims.specs.Demands.Rows.{_when_}
 use Rattle.claims.specs.Demands.ByPlaces.{at, hertzAt, badCode, badHertz, partAt, requestAt}
 use Rattle.claims.specs.Demands.Refused.{partRows, byteRows}
@@ -46,7 +46,7 @@ says-set w l = go (eqb w 0)
 
 says-hertz : (x a b c d : ℕ) (l : List ℕ) → let w : ℕ = a + 256 * b + 65_536 * c + 16_777_216 * d in
     Says (hertz (x ∷ a ∷ b ∷ c ∷ d ∷ l)) (record { value = cond (eqb x 0) Unset (Hz w); rest = l }) ((1 when (leb 2 x || (eqb x 0 && not (eqb w 0)))) ∷ [])
-unfolding hertz word byte code
+unfolding hertz u32le byte code
 says-hertz zero a b c d l = says-set (a + 256 * b + 65_536 * c + 16_777_216 * d) l
 says-hertz (suc zero) a b c d l = record { same = refl }
 says-hertz (suc (suc x)) a b c d l = rw (le-ltb (suc (suc x)) 2 (omega arith), le-leb 2 (suc (suc x)) (omega arith)) (record { same = refl })
@@ -165,9 +165,9 @@ code-takes n = takes-then byte (λ b. fits (ltb b n) >> return b) 1 0 byte-takes
 coded-takes : {A : Type 0} (n : ℕ) (f : ℕ → A) → Takes (code n >>= λ c. return (f c)) 1
 coded-takes n f = takes-then (code n) (λ c. return (f c)) 1 0 (code-takes n) (λ c. return-takes (f c))
 
-word-takes : Takes word 4
-unfolding word
-word-takes = takes-then byte _ 1 3 byte-takes λ a. takes-then byte _ 1 2 byte-takes λ b. takes-then byte _ 1 1 byte-takes λ c. takes-then byte _ 1 0 byte-takes λ d. return-takes _
+u32le-takes : Takes u32le 4
+unfolding u32le
+u32le-takes = takes-then byte _ 1 3 byte-takes λ a. takes-then byte _ 1 2 byte-takes λ b. takes-then byte _ 1 1 byte-takes λ c. takes-then byte _ 1 0 byte-takes λ d. return-takes _
 
 set-takes : (set w : ℕ) → Takes (setTo set w) 0
 set-takes zero w = fits-takes (eqb w 0) (return Unset) 0 (return-takes Unset)
@@ -175,7 +175,7 @@ set-takes (suc set) w = return-takes (Hz w)
 
 hertz-takes : Takes hertz 5
 unfolding hertz
-hertz-takes = takes-then (code 2) _ 1 4 (code-takes 2) λ s. takes-then word (setTo s) 4 0 word-takes (set-takes s)
+hertz-takes = takes-then (code 2) _ 1 4 (code-takes 2) λ s. takes-then u32le (setTo s) 4 0 u32le-takes (set-takes s)
 
 part-takes : Takes pllPart 16
 unfolding pllPart strategy

@@ -32,12 +32,12 @@ stateOf c = record {
 }
 
 -- ---- the bytes, by places: 4 bytes, little-endian
-abbrev pub wordAt : List ℕ → ℕ → ℕ
-wordAt b k = at b k + 256 * at b (k + 1) + 65_536 * at b (k + 2) + 16_777_216 * at b (k + 3)
+abbrev pub u32leAt : List ℕ → ℕ → ℕ
+u32leAt b k = at b k + 256 * at b (k + 1) + 65_536 * at b (k + 2) + 16_777_216 * at b (k + 3)
 
 -- each hertz is a byte 0 or 1 (unset, set) and 4 bytes
 abbrev pub hertzAt : List ℕ → ℕ → Hertz
-hertzAt b k = cond (eqb (at b k) 0) Unset (Hz (wordAt b (k + 1)))
+hertzAt b k = cond (eqb (at b k) 0) Unset (Hz (u32leAt b (k + 1)))
 
 -- a byte that is none of n codes from 0; a set byte that is neither 0 nor 1, or an unset hertz not 0
 abbrev pub badCode : (n : ℕ) → List ℕ → ℕ → Bool
@@ -45,7 +45,7 @@ badCode n b k = leb n (at b k)
 
 -- for hertz
 abbrev pub badHertz : List ℕ → ℕ → Bool
-badHertz b k = leb 2 (at b k) || (eqb (at b k) 0 && not (eqb (wordAt b (k + 1)) 0))
+badHertz b k = leb 2 (at b k) || (eqb (at b k) 0 && not (eqb (u32leAt b (k + 1)) 0))
 
 -- a PLL's part: strategy, P, Q, R
 abbrev pub partAt : List ℕ → ℕ → PllRequest

@@ -3,7 +3,6 @@ use mathlib.Core.Path.{_∙_}
 use borrow.Author.Tests.{not-true, not-false}
 use Rattle.clock_api.proofs.Answers.{no-chip, no-fit, there}
 use borrow.Author.Needs.{needs}
-use Rattle.clock_api.proofs.asked.Statement.{statement}
 use Rattle.clock_api.proofs.asked.Tie as tie
 
 returns : tie.Need-returns
@@ -15,7 +14,7 @@ returns-2 c = c .refused2 .ensures ∙ no-fit _ _ _ (c .before .before .if1 .lef
 returns-3 : tie.Need-returns-3
 returns-3 c = c .plan .ensures .0 ∙ rw (c .before .chip-from .ensures) (there _ _ _ (c .before .before .before .if1 .left) (not-false _ (c .before .before .if2 .left)))
 
-pub asked-spec : {M : Type 1} → statement M
+pub asked-spec : {M : Type 1} → Rattle.clock_api.proofs.asked.Statement.statement M
 asked-spec =
     tie.close (tie.spec (λ c κs. search needs) returns (λ c κs. search needs) returns-2 (λ c κs. search needs) (λ c κs. search needs)
     returns-3)

@@ -3,7 +3,6 @@ use denote.Ref.{now}
 use borrow.Author.Tests.{not-true, not-false}
 use Rattle.clock_api.proofs.Answers.{bank-no-chip, bank-no-fit, bank-done}
 use borrow.Author.Needs.{needs}
-use Rattle.clock_api.proofs.bank_asked.Statement.{statement}
 use Rattle.clock_api.proofs.bank_asked.Tie as tie
 
 returns : tie.Need-returns
@@ -15,7 +14,7 @@ returns-2 c = bank-no-fit _ _ _ _ (now (c .before .before .before .before .befor
 returns-3 : tie.Need-returns-3
 returns-3 c = bank-done _ _ _ _ (now (c .before .before .before .before .before .before .before .before .before .before .args .bank)) (c .before .before .before .before .before .before .if1 .left) (not-false _ (c .before .before .before .before .before .if2 .left)) (c .before .before .before .before .chip-from .ensures) (c .before .before .plan-bank .ensures .0) (c .before .before .plan-bank .ensures .1 .0)
 
-pub bank-asked-spec : {M : Type 1} → statement M
+pub bank-asked-spec : {M : Type 1} → Rattle.clock_api.proofs.bank_asked.Statement.statement M
 bank-asked-spec =
     tie.close (tie.spec (λ c κs. search needs) returns (λ c κs. search needs) returns-2 (λ c κs. search needs) (λ c κs. search needs)
     (λ c. search needs) returns-3)

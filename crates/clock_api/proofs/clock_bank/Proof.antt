@@ -3,7 +3,6 @@ use mathlib.Core.Path.{ap, _∙_}
 use Rattle.types.specs.declared.Planned.{Planned}
 use Rattle.rules.specs.Document01.Refusals.{codeOf}
 use borrow.Author.Needs.{needs}
-use Rattle.clock_api.proofs.clock_bank.Statement.{statement}
 use Rattle.clock_api.proofs.clock_bank.Tie as tie
 
 returns : tie.Need-returns
@@ -11,5 +10,5 @@ returns c =
     let e = c .before .before .before .bank-asked .ensures in
     (c .code-of .ensures ∙ ap (λ (z : Planned). codeOf (z .answer)) (e .0), e .1)
 
-pub clock-bank-spec : {M : Type 1} → statement M
+pub clock-bank-spec : {M : Type 1} → Rattle.clock_api.proofs.clock_bank.Statement.statement M
 clock-bank-spec = tie.close (tie.spec (λ c κs. search needs) (λ c κs. search needs) (λ c. search needs) returns)

@@ -2,7 +2,6 @@
 use denote.Ref.{now}
 use Rattle.clock_api.proofs.Answers.{listed as by-plan, list-kept as by-refusal}
 use borrow.Author.Needs.{needs}
-use Rattle.clock_api.proofs.list_by.Statement.{statement}
 use Rattle.clock_api.proofs.list_by.Tie as tie
 
 returns : tie.Need-returns
@@ -11,7 +10,7 @@ returns c = by-plan (c .before .before .before .before .before .before .before .
 returns-2 : tie.Need-returns-2
 returns-2 c = by-refusal (c .before .before .before .before .before .args .x) (now (c .before .before .before .before .before .args .list)) (c .before .before .answer .given .1) (c .number-of .ensures)
 
-pub list-by-spec : {M : Type 1} → statement M
+pub list-by-spec : {M : Type 1} → Rattle.clock_api.proofs.list_by.Statement.statement M
 list-by-spec =
     tie.close (tie.spec (λ c. search needs) (λ c κs. search needs) (λ c. search needs) (λ c κs. search needs) (λ c. search needs) returns
     returns-2)

@@ -5,7 +5,6 @@ use Rattle.rules.specs.Document01.Mco.{mco1Input, mco2Input}
 use Rattle.rules.specs.Document01.Plan.{mcosOf}
 use Rattle.core_clocks.proofs.InTurn.{in-turn}
 use borrow.Author.Needs.{needs}
-use Rattle.core_clocks.proofs.mco_clocks.Statement.{statement}
 use Rattle.core_clocks.proofs.mco_clocks.Tie as tie
 
 returns : tie.Need-returns
@@ -20,7 +19,7 @@ returns c =
     ∙ rw (c .before .output2 .ensures, k2 .mco2-input .ensures, k2 .before .output .ensures, k1 .mco1-input .ensures, p2 .p-clock2 .ensures, p2 .before .p-clock .ensures, p2 .before .before .q-clock .ensures)
     (in-turn (mco1Input (a .q .mco1source) (a .q .hse) (qClock (pllFrom l 0))) (mco2Input (a .q .mco2source) (a .system) (a .q .hse) (pClock (pllFrom l 0)) (pClock (pllFrom l 1))) (a .q .mco1) (a .q .mco2))
 
-pub mco-clocks-spec : {M : Type 1} → statement M
+pub mco-clocks-spec : {M : Type 1} → Rattle.core_clocks.proofs.mco_clocks.Statement.statement M
 mco-clocks-spec =
     tie.close (tie.spec (λ c. search needs) (λ c. search needs) (λ c κs. search needs) (λ c κs. search needs) (λ c κs. search needs)
     (λ c κs. search needs) (λ c κs. search needs) (λ c κs. search needs) (λ c κs. search needs) (λ c κs. search needs) returns)

@@ -7,7 +7,6 @@ use Rattle.rules.specs.Document01.Entries.{hseEntries, sourceEntries, starts}
 use Rattle.entries.proofs.Counted.{hse-length, source-length, starts-length}
 use Rattle.entries.proofs.Whole.{busesIn, fromStarts, fromSources}
 use Rattle.entries.proofs.Placed.{first-at, later-at, with-hse, source-here}
-use Rattle.entries.proofs.after_clocks.Statement.{statement}
 use Rattle.entries.proofs.after_clocks.Tie as tie
 
 returns : tie.Need-returns
@@ -60,7 +59,7 @@ returns-4 c =
     (later-at (starts (p .plls)) (busesIn p) (d .result) m (d .ensures .0 ∙ starts-length (p .plls)) (c .before .if3 .left)
     (c .bus-at .ensures)))
 
-pub after-clocks-spec : {M : Type 1} → statement M
+pub after-clocks-spec : {M : Type 1} → Rattle.entries.proofs.after_clocks.Statement.statement M
 after-clocks-spec =
     tie.close (tie.spec (λ c κs. search needs) (λ c κs. search needs) returns (λ c κs. search needs) (λ c. search needs) (λ c. search needs)
     returns-2 (λ c κs. search needs) starts-at-requires returns-3 (λ c κs. search needs) returns-4)

@@ -8,7 +8,6 @@ use Rattle.entries.proofs.Counted.{setups-length}
 use Rattle.entries.specs.Place.{afterClocks}
 use Rattle.entries.proofs.Whole.{clocksIn, parts}
 use Rattle.entries.proofs.Placed.{first-at, later-at}
-use Rattle.entries.proofs.plan_at.Statement.{statement}
 use Rattle.entries.proofs.plan_at.Tie as tie
 
 returns : tie.Need-returns
@@ -41,7 +40,7 @@ returns-3 c =
     (later-at (clocksIn p) (afterClocks p) 9 l refl (c .before .if2 .left)
     (c .after-clocks .ensures)))
 
-pub plan-at-spec : {M : Type 1} → statement M
+pub plan-at-spec : {M : Type 1} → Rattle.entries.proofs.plan_at.Statement.statement M
 plan-at-spec =
     tie.close (tie.spec (λ c κs. search needs) (λ c κs. search needs) returns (λ c κs. search needs) returns-2 (λ c κs. search needs)
     returns-3)

@@ -7,7 +7,6 @@ use Rattle.rules.specs.Manual.Tree.{fedBy}
 use Rattle.exact.specs.Exact.{clocksBy}
 use Rattle.exact.proofs.Chains.{past, none-below}
 use borrow.Author.Needs.{needs}
-use Rattle.exact.proofs.clock_reading.Statement.{statement}
 use Rattle.exact.proofs.clock_reading.Tie as tie
 
 returns : tie.Need-returns
@@ -130,7 +129,7 @@ returns-27 c =
     let a = c .before .before .args in
     past (clocksBy (now (a .bank)) (fedBy (a .hse))) (a .clock) (none-below 26 (a .clock) (c .match .rest))
 
-pub clock-reading-spec : {M : Type 1} → statement M
+pub clock-reading-spec : {M : Type 1} → Rattle.exact.proofs.clock_reading.Statement.statement M
 clock-reading-spec =
     tie.close (tie.spec (λ c κs. search needs) (λ c κs. search needs) (λ c κs. search needs) (λ c κs. search needs) (λ c κs. search needs)
     (λ c κs. search needs) (λ c κs. search needs) (λ c κs. search needs) (λ c κs. search needs) (λ c κs. search needs)

@@ -6,7 +6,6 @@ use borrow.Author.Needs.{needs}
 use Rattle.rules.specs.Document01.Flash.{atColumn}
 use Rattle.rules.specs.Document01.Chip.{scaleOf}
 use Rattle.flash.specs.Flash.{packed, placed}
-use Rattle.flash.proofs.entry.Statement.{statement}
 use Rattle.flash.proofs.entry.Tie as tie
 
 at-row : (s k i : ℕ) → i ≡ 252 * s + k → k < 252 → placed i ≡ packed (atColumn (scaleOf s) k)
@@ -28,7 +27,7 @@ returns-3 c = let k = c .before .before .before .args .column in rw (c .before .
 returns-4 : tie.Need-returns-4
 returns-4 c = let k = c .before .before .before .args .column in rw (c .before .enum-told4 .given .1) (c .at4 .ensures ∙ at-row 3 k (756 + k) (omega arith) (omega arith))
 
-pub entry-spec : {M : Type 1} → statement M
+pub entry-spec : {M : Type 1} → Rattle.flash.proofs.entry.Statement.statement M
 entry-spec =
     tie.close (tie.spec (λ c. omega arith) (λ c. search needs) (λ c κs. omega arith) (λ c. search needs) (λ c κs. omega arith)
     (λ c. search needs) (λ c κs. omega arith) (λ c. search needs) (λ c κs. omega arith) returns returns-2 returns-3 returns-4)

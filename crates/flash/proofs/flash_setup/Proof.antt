@@ -6,7 +6,6 @@ use borrow.Author.Needs.{needs}
 use Rattle.rules.specs.Document01.Flash.{columnOf, atColumn, flashOf}
 use Rattle.flash.specs.Flash.{packed}
 use Rattle.flash.proofs.Small.{small}
-use Rattle.flash.proofs.flash_setup.Statement.{statement}
 use Rattle.flash.proofs.flash_setup.Tie as tie
 
 returns : tie.Need-returns
@@ -20,5 +19,5 @@ returns c =
     let delay : c .entry .result / 8 ≡ atColumn s (columnOf (a .ahb)) .delay = omega arith in
     rw (latency, delay)
 
-pub flash-setup-spec : {M : Type 1} → statement M
+pub flash-setup-spec : {M : Type 1} → Rattle.flash.proofs.flash_setup.Statement.statement M
 flash-setup-spec = tie.close (tie.spec (λ c κs. search needs) (λ c κs. search needs) (λ c. search needs) returns)

@@ -8,7 +8,6 @@ use Rattle.ieee754.specs.Steps.{fracnOf, fracnFloat}
 use Rattle.rules.specs.Document01.OnePll.{taken, fracnFrom}
 use Rattle.fracn.specs.declared.FracnInput.{FracnInput}
 use Rattle.fracn.proofs.Accept.{asked, to16, accepted, refused-high, refused-low, taken-from}
-use Rattle.fracn.proofs.calc_fracn.Statement.{statement}
 use Rattle.fracn.proofs.calc_fracn.Tie as tie
 
 -- the value that the code tests
@@ -45,5 +44,5 @@ returns-3 : tie.Need-returns-3
 unfolding fracnOf ofInt ofBits
 returns-3 c = both (c .before .before .before .before .args .i) (refused-low (tested (c .before .before .before .before .args .i)) (c .if1 .left))
 
-pub calc-fracn-spec : {M : Type 1} → statement M
+pub calc-fracn-spec : {M : Type 1} → Rattle.fracn.proofs.calc_fracn.Statement.statement M
 calc-fracn-spec = tie.close (tie.spec truncating-f32-to-u64-requires cast-t9 returns returns-2 returns-3)

@@ -6,7 +6,6 @@ use lib.Dec.{lit≤}
 use native.Mathlib.Nat.{lt-of-lt-of-le}
 use Rattle.ieee754.proofs.Same.{vco-same}
 use Rattle.ieee754.specs.Steps.{vcoOf, float}
-use Rattle.fracn.proofs.calc_vco_ck.Statement.{statement}
 use Rattle.fracn.proofs.calc_vco_ck.Tie as tie
 
 -- 8192.0 by its bit pattern, as MIR has it
@@ -31,5 +30,5 @@ returns c = (
       (lt-of-lt-of-le (c .before .before .before .before .fits .fracn .fits) (lit≤ tt)),
 )
 
-pub calc-vco-ck-spec : {M : Type 1} → statement M
+pub calc-vco-ck-spec : {M : Type 1} → Rattle.fracn.proofs.calc_vco_ck.Statement.statement M
 calc-vco-ck-spec = tie.close (tie.spec (λ c κs. search needs) (λ c κs. search needs) (λ c. search needs) (λ c κs. search needs) returns)

@@ -5,7 +5,6 @@ use lib.Dec.{T, lit≤}
 use lib.Ieee.{ofBits, neg, toUnsigned}
 use lib.Ieee.Casts.{toUnsigned-lt}
 use Rattle.ieee754.proofs.Cut.{cut-low, cut-high, cut-in, lt-wider}
-use Rattle.fracn.proofs.cut_u32.Statement.{statement}
 use Rattle.fracn.proofs.cut_u32.Tie as tie
 
 truncating-f32-to-u64-requires : tie.Need-truncating-f32-to-u64-requires
@@ -31,5 +30,5 @@ returns-3 : tie.Need-returns-3
 unfolding ofBits neg
 returns-3 c = sym (cut-low 32 (c .before .args .x) (c .if1 .left))
 
-pub cut-u32-spec : {M : Type 1} → statement M
+pub cut-u32-spec : {M : Type 1} → Rattle.fracn.proofs.cut_u32.Statement.statement M
 cut-u32-spec = tie.close (tie.spec truncating-f32-to-u64-requires cast-result returns returns-2 returns-3)

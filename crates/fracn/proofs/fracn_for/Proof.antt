@@ -3,7 +3,6 @@ use mathlib.Core.Path.{_≡_, _∙_}
 use borrow.Author.Needs.{needs}
 use Rattle.ieee754.specs.Steps.{float, fracnOf}
 use Rattle.ieee754.proofs.Zero.{fracn-always}
-use Rattle.fracn.proofs.fracn_for.Statement.{statement}
 use Rattle.fracn.proofs.fracn_for.Tie as tie
 
 steps : (c : tie.After-calc-fracn) → c .calc-fracn .result ≡ fracnOf (float (c .before .before .before .before .before .args .reference)) (float (c .before .before .before .before .before .args .n)) (float (c .before .before .before .before .before .args .divider)) (float (c .before .before .before .before .before .args .output))
@@ -14,7 +13,7 @@ returns c =
     let s = c .before .before .before .before .before in
     (steps c, steps c ∙ fracn-always (s .args .reference) (s .args .n) (s .args .divider) (s .args .output) (s .fits .reference .fits) (s .fits .n .fits) (s .fits .divider .fits) (s .fits .output .fits))
 
-pub fracn-for-spec : {M : Type 1} → statement M
+pub fracn-for-spec : {M : Type 1} → Rattle.fracn.proofs.fracn_for.Statement.statement M
 fracn-for-spec =
     tie.close (tie.spec (λ c κs. search needs) (λ c κs. search needs) (λ c κs. search needs) (λ c κs. search needs) (λ c κs. search needs)
     returns)

@@ -4,7 +4,6 @@ use mathlib.Core.Bool.{_||_}
 use borrow.Author.Tests.{not-true, not-false}
 use Rattle.freeze.proofs.Steps.{third-asked, third-empty}
 use borrow.Author.Needs.{needs}
-use Rattle.freeze.proofs.answer_to.Statement.{statement}
 use Rattle.freeze.proofs.answer_to.Tie as tie
 
 returns : tie.Need-returns
@@ -19,6 +18,6 @@ returns-2 c =
     let a = k .before .before .before .args in
     c .chosen .ensures ∙ sym (third-empty (a .q) (a .c) (rw (← k .is-no-part .ensures) (not-false (a .c .three || k .is-no-part .result) (c .before .if1 .left))))
 
-pub answer-to-spec : {M : Type 1} → statement M
+pub answer-to-spec : {M : Type 1} → Rattle.freeze.proofs.answer_to.Statement.statement M
 answer-to-spec =
     tie.close (tie.spec (λ c. search needs) (λ c κs. search needs) (λ c κs. search needs) returns (λ c κs. search needs) returns-2)

@@ -3,7 +3,6 @@ use mathlib.Core.Path.{_≡_, _∙_}
 use Rattle.types.specs.declared.Answer.the-variants.{Accepted}
 use Rattle.freeze.proofs.Steps.{Settled, by-refusal, settled}
 use borrow.Author.Needs.{needs}
-use Rattle.freeze.proofs.chosen.Statement.{statement}
 use Rattle.freeze.proofs.chosen.Tie as tie
 
 by-steps : (k : tie.After-configure) → k .configure .result .answer ≡ Accepted → Settled (k .before .args .q) (k .before .args .c) (k .configure .result)
@@ -23,7 +22,7 @@ returns-2 c =
     c .after-plls .ensures ∙ rw (c .before .plan-at3 .ensures, c .before .before .before .plan-at2 .ensures, p .plan-at .ensures)
     (by-steps (p .before .before .before .before .before) (p .before .before .before .enum-told .given .1) .plan)
 
-pub chosen-spec : {M : Type 1} → statement M
+pub chosen-spec : {M : Type 1} → Rattle.freeze.proofs.chosen.Statement.statement M
 chosen-spec =
     tie.close (tie.spec (λ c κs. search needs) (λ c. search needs) (λ c κs. search needs) returns (λ c. search needs) (λ c. search needs)
     (λ c κs. search needs) (λ c. search needs) (λ c κs. search needs) (λ c. search needs) (λ c κs. search needs) after-plls-requires

@@ -1,6 +1,5 @@
 -- `freeze::is_div2` meets its contract.
 use borrow.Author.Needs.{needs}
-use Rattle.freeze.proofs.is_div2.Statement.{statement}
 use Rattle.freeze.proofs.is_div2.Tie as tie
 
 returns : tie.Need-returns
@@ -15,7 +14,7 @@ returns-3 c = rw (c .enum-told3 .given .1)
 returns-4 : tie.Need-returns-4
 returns-4 c = rw (c .enum-told4 .given .1)
 
-pub is-div2-spec : {M : Type 1} → statement M
+pub is-div2-spec : {M : Type 1} → Rattle.freeze.proofs.is_div2.Statement.statement M
 is-div2-spec =
     tie.close (tie.spec (λ c. search needs) (λ c. search needs) (λ c. search needs) (λ c. search needs) returns returns-2 returns-3
     returns-4)

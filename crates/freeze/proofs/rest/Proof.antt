@@ -5,7 +5,6 @@ use Rattle.rules.specs.Document01.Plan.{systemFrom}
 use Rattle.freeze.specs.Freeze.{answered}
 use Rattle.freeze.proofs.Steps.{hsi-off, hsidiv, hsi-ready}
 use borrow.Author.Needs.{needs}
-use Rattle.freeze.proofs.rest.Statement.{statement}
 use Rattle.freeze.proofs.rest.Tie as tie
 
 module _ (k : tie.After-system-from) where
@@ -36,7 +35,7 @@ returns-3 c =
     c .finish .ensures ∙ rw (c .before .before .bus-clocks .ensures, c .before .mco-clocks .ensures, s)
     (ap answered (sym (hsi-ready (a .q) (a .c) (a .plls) (not-false (a .c .hsion) (c .before .before .before .before .before .before .if1 .left)) (sym (c .before .before .before .before .before .is-div2 .ensures) ∙ not-false _ (c .before .before .before .before .if2 .left)))))
 
-pub rest-spec : {M : Type 1} → statement M
+pub rest-spec : {M : Type 1} → Rattle.freeze.proofs.rest.Statement.statement M
 rest-spec =
     tie.close (tie.spec (λ c κs. search needs) returns (λ c κs. search needs) (λ c κs. search needs) returns-2 (λ c κs. search needs)
     (λ c κs. search needs) (λ c κs. search needs) finish-requires returns-3)

@@ -7,7 +7,6 @@ use lib.Dec.{eqb}
 use borrow.Author.Needs.{needs}
 use borrow.Author.Tests.{eq-eqb, ne-eqb, eqb-true, eqb-false}
 use Rattle.laws.proofs.Tests.{by-test}
-use Rattle.lines.proofs.ends.Statement.{statement}
 use Rattle.lines.proofs.ends.Tie as tie
 
 -- the last of n
@@ -26,5 +25,5 @@ returns-2 c = rw (ne-eqb (c .before .before .args .i % 30) 29 (c .before .if1 .l
 returns-3 : tie.Need-returns-3
 returns-3 c = rw (ne-eqb (c .before .before .before .args .i % 30) 29 (c .before .before .if1 .left), c .same .ensures, last (c .before .before .before .args .i) _ (c .before .if2 .left))
 
-pub ends-spec : {M : Type 1} → statement M
+pub ends-spec : {M : Type 1} → Rattle.lines.proofs.ends.Statement.statement M
 ends-spec = tie.close (tie.spec returns returns-2 (λ c. search needs) (λ c κs. search needs) returns-3)

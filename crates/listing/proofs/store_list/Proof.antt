@@ -6,7 +6,6 @@ use borrow.Author.Needs.{needs}
 use Rattle.rules.specs.Document01.Entries.{entriesOf}
 use Rattle.rules.proofs.Document01.Length.{at-most}
 use Rattle.listing.proofs.Listed.{Going, begins, goes-on, ends, whole, put-length}
-use Rattle.listing.proofs.store_list.Statement.{statement}
 use Rattle.listing.proofs.store_list.Tie as tie
 
 abbrev Inv-loop : tie.InvT-loop
@@ -36,7 +35,7 @@ same-length c = put-length (now (c .before .before .before .before .before .befo
 returns : tie.Need-returns Inv-loop μ-loop
 returns c = whole (entriesOf (c .before .before .before .before .before .before .before .before .args .x)) (now (c .before .before .before .before .before .before .before .before .args .list)) (c .before .before .before .before .before .before .entry-count .ensures) (c .before .before .before .before .put .ensures) (ends _ _ _ (c .before .loop .inv) (c .loop-test .left))
 
-pub store-list-spec : {M : Type 1} → statement M
+pub store-list-spec : {M : Type 1} → Rattle.listing.proofs.store_list.Statement.statement M
 store-list-spec =
     tie.close (tie.spec Inv-loop μ-loop (λ c κs. search needs) cast-put (λ c κs. search needs) loop-holds mul-store-words add-store-words
     (λ c κs. search needs) (λ c κs. search needs) (λ c κs. search needs) (λ c. search needs) (λ c. search needs) loop-again same-length

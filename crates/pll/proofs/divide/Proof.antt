@@ -11,7 +11,6 @@ use native.Mathlib.Omega.{arith}
 use Prim.Native.Nat.{ℕ, _/_, _≤_}
 use mathlib.Core.Path.{_≡_, sym, ap, _∙_}
 use borrow.Author.Needs.{needs}
-use Rattle.pll.proofs.divide.Statement.{statement}
 use Rattle.pll.proofs.divide.Tie as tie
 
 -- the range and the target are those of document 01
@@ -77,7 +76,7 @@ returns-3 c = let k = c .before .before in
     ∙ ap (λ (x : ℕ). running (settledFor (a .odd) (a .request) (rangeOf (a .most) .vcosel) x m (a .source / m))) (target-is (e .before .before .before))
     ∙ rest _ _ _ _ _ (s .pre) (from-start (e .before)) _ (sym (found-is e) ∙ k .m .given .1)
 
-pub divide-spec : {M : Type 1} → statement M
+pub divide-spec : {M : Type 1} → Rattle.pll.proofs.divide.Statement.statement M
 divide-spec =
     tie.close (tie.spec (λ c κs. search needs) target-of-requires returns search-m-requires (λ c. search needs) returns-2
     (λ c. search needs) div-settle settle-requires returns-3)

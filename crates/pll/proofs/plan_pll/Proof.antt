@@ -5,7 +5,6 @@ use borrow.Author.Tests.{eq-eqb, ne-eqb, not-true, not-false}
 use native.Mathlib.Omega.{arith}
 use mathlib.Core.Path.{sym, _∙_}
 use borrow.Author.Needs.{needs}
-use Rattle.pll.proofs.plan_pll.Statement.{statement}
 use Rattle.pll.proofs.plan_pll.Tie as tie
 
 returns : tie.Need-returns
@@ -24,5 +23,5 @@ returns-3 : tie.Need-returns-3
 unfolding onePllOf
 returns-3 c = rw (ne-eqb _ 0 (c .before .before .before .if1 .left)) (c .run-pll .ensures)
 
-pub plan-pll-spec : {M : Type 1} → statement M
+pub plan-pll-spec : {M : Type 1} → Rattle.pll.proofs.plan_pll.Statement.statement M
 plan-pll-spec = tie.close (tie.spec returns (λ c κs. search needs) returns-2 run-pll-requires returns-3)

@@ -3,7 +3,6 @@ use Rattle.pll.proofs.Spanning.{idle, ordered, far, high, goes-on, span
 use native.Mathlib.Omega.{arith}
 use mathlib.Core.Path.{sym, _∙_}
 use borrow.Author.Needs.{needs}
-use Rattle.pll.proofs.run_pll.Statement.{statement}
 use Rattle.pll.proofs.run_pll.Tie as tie
 
 returns : tie.Need-returns
@@ -37,7 +36,7 @@ returns-4 c = let e = c .before in
     let s = k .before .before in
     c .divide .ensures ∙ goes-on _ _ (s .before .args .request) (s .before .pre .1) _ _ (sym (s .span-of .ensures) ∙ k .least .given .1) (e .before .if1 .left) (e .if2 .left)
 
-pub run-pll-spec : {M : Type 1} → statement M
+pub run-pll-spec : {M : Type 1} → Rattle.pll.proofs.run_pll.Statement.statement M
 run-pll-spec =
     tie.close (tie.spec (λ c κs. search needs) (λ c. search needs) returns (λ c. search needs) returns-2 returns-3 cast-divide
     (λ c. search needs) divide-requires returns-4)

@@ -7,7 +7,6 @@ use Rattle.rules.specs.Document01.Hertz.{notZero}
 use Rattle.rules.specs.Document01.Buses.{hpreOf, hpreFor, ahbOf}
 use Rattle.rules.proofs.Document01.Ratios.{hpre-pos}
 use Rattle.prescaler.proofs.Zero.{zero, nonzero}
-use Rattle.prescaler.proofs.ahb.Statement.{statement}
 use Rattle.prescaler.proofs.ahb.Tie as tie
 
 module _ (c : tie.After-hpre-of) where
@@ -35,5 +34,5 @@ returns-3 : tie.Need-returns-3
 unfolding ahbOf
 returns-3 c = rw (above-zero (c .before), ← divisor (c .before), ne-eqb _ _ (c .if2 .left))
 
-pub ahb-spec : {M : Type 1} → statement M
+pub ahb-spec : {M : Type 1} → Rattle.prescaler.proofs.ahb.Statement.statement M
 ahb-spec = tie.close (tie.spec (λ c κs. search needs) returns bus-ratio-requires (λ c κs. search needs) div-hclk returns-2 returns-3)

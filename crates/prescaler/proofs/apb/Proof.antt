@@ -4,7 +4,6 @@ use borrow.Author.Needs.{needs}
 use Rattle.rules.specs.Document01.Buses.{ppreOf, ppreFor, apbOf}
 use Rattle.rules.proofs.Document01.Ratios.{ppre-pos}
 use Rattle.prescaler.proofs.Zero.{zero, nonzero}
-use Rattle.prescaler.proofs.apb.Statement.{statement}
 use Rattle.prescaler.proofs.apb.Tie as tie
 
 returns : tie.Need-returns
@@ -24,5 +23,5 @@ returns-2 c =
     let divisor : c .ppre-of .result ≡ ppreFor (a .hclk) (a .requested) = c .ppre-of .ensures ∙ ap ppreOf (c .before .bus-ratio .ensures) in
     rw (nonzero (a .requested) (c .before .before .before .is-zero .ensures) (c .before .before .if1 .left), ← divisor)
 
-pub apb-spec : {M : Type 1} → statement M
+pub apb-spec : {M : Type 1} → Rattle.prescaler.proofs.apb.Statement.statement M
 apb-spec = tie.close (tie.spec (λ c κs. search needs) returns bus-ratio-requires (λ c κs. search needs) div-pclk returns-2)

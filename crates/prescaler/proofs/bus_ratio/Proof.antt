@@ -6,7 +6,6 @@ use lib.Dec.{eqb}
 use borrow.Author.Needs.{needs}
 use borrow.Author.Tests.{not-true, eqb-false}
 use Rattle.rules.specs.Document01.Hertz.{ratioOf}
-use Rattle.prescaler.proofs.bus_ratio.Statement.{statement}
 use Rattle.prescaler.proofs.bus_ratio.Tie as tie
 
 returns : tie.Need-returns
@@ -25,6 +24,6 @@ returns-2 c = rw (c .before .before .enum-told .given .1) (c .ratio .ensures)
 returns-3 : tie.Need-returns-3
 returns-3 c = rw (c .before .before .requested .given .1) (c .ratio2 .ensures)
 
-pub bus-ratio-spec : {M : Type 1} → statement M
+pub bus-ratio-spec : {M : Type 1} → Rattle.prescaler.proofs.bus_ratio.Statement.statement M
 bus-ratio-spec =
     tie.close (tie.spec (λ c. search needs) returns (λ c κs. search needs) (λ c. search needs) ratio-requires-2 returns-2 returns-3)

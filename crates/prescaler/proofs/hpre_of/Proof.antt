@@ -5,7 +5,6 @@ use borrow.Author.Needs.{needs}
 use borrow.Author.Tests.{le-leb}
 use Rattle.rules.specs.Document01.Buses.{ahbRows}
 use Rattle.prescaler.proofs.Rows.{steady}
-use Rattle.prescaler.proofs.hpre_of.Statement.{statement}
 use Rattle.prescaler.proofs.hpre_of.Tie as tie
 
 returns : tie.Need-returns
@@ -26,5 +25,5 @@ returns-5 c = steady 192 383 (c .before .before .before .before .before .args .r
 returns-6 : tie.Need-returns-6
 returns-6 c = steady 384 4_294_967_295 (c .before .before .before .before .before .args .ratio) (omega arith) (omega arith) ahbRows 512 refl
 
-pub hpre-of-spec : {M : Type 1} → statement M
+pub hpre-of-spec : {M : Type 1} → Rattle.prescaler.proofs.hpre_of.Statement.statement M
 hpre-of-spec = tie.close (tie.spec (λ c κs. search needs) returns returns-2 returns-3 returns-4 returns-5 returns-6)

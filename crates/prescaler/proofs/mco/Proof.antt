@@ -3,7 +3,6 @@ use native.Mathlib.Omega.{arith}
 use borrow.Author.Needs.{needs}
 use borrow.Author.Tests.{le-leb, lt-leb, ne-eqb}
 use Rattle.rules.specs.Document01.Mco.{mcoOf}
-use Rattle.prescaler.proofs.mco.Statement.{statement}
 use Rattle.prescaler.proofs.mco.Tie as tie
 
 returns : tie.Need-returns
@@ -35,7 +34,7 @@ returns-5 c =
     let r = c .before .before .ratio .result in
     rw (i .before .before .requested .given .1, ne-eqb _ _ (i .if1 .left), ← c .before .before .ratio .ensures, le-leb 1 r (omega arith), le-leb r 15 (omega arith))
 
-pub mco-spec : {M : Type 1} → statement M
+pub mco-spec : {M : Type 1} → Rattle.prescaler.proofs.mco.Statement.statement M
 mco-spec =
     tie.close (tie.spec (λ c. search needs) (λ c. search needs) returns (λ c κs. search needs) returns-2 returns-3 (λ c. search needs)
     returns-4 returns-5)

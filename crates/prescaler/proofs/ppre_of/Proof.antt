@@ -3,7 +3,6 @@ use mathlib.Core.Path.{refl}
 use native.Mathlib.Omega.{arith}
 use Rattle.rules.specs.Document01.Buses.{apbRows}
 use Rattle.prescaler.proofs.Rows.{steady}
-use Rattle.prescaler.proofs.ppre_of.Statement.{statement}
 use Rattle.prescaler.proofs.ppre_of.Tie as tie
 
 returns : tie.Need-returns
@@ -21,5 +20,5 @@ returns-4 c = steady 6 11 (c .before .before .before .before .args .ratio) (omeg
 returns-5 : tie.Need-returns-5
 returns-5 c = steady 12 4_294_967_295 (c .before .before .before .before .args .ratio) (omega arith) (omega arith) apbRows 16 refl
 
-pub ppre-of-spec : {M : Type 1} → statement M
+pub ppre-of-spec : {M : Type 1} → Rattle.prescaler.proofs.ppre_of.Statement.statement M
 ppre-of-spec = tie.close (tie.spec returns returns-2 returns-3 returns-4 returns-5)

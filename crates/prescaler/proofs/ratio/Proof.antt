@@ -5,7 +5,6 @@ use native.Mathlib.Nat.{div-add-mod', mul-le-mul-left, mul-one}
 use borrow.Author.Needs.{needs}
 use borrow.Author.Tests.{eq-eqb, ne-eqb}
 use Rattle.rules.proofs.Document01.RoundedUp.{rounded-up}
-use Rattle.prescaler.proofs.ratio.Statement.{statement}
 use Rattle.prescaler.proofs.ratio.Tie as tie
 
 returns : tie.Need-returns
@@ -25,5 +24,5 @@ returns-2 c =
     let a = c .before .args in
     rw (ne-eqb (a .clock % a .wanted) 0 (λ e. omega (arith, c .if1 .left))) at (rounded-up (a .clock) (a .wanted) (c .before .pre))
 
-pub ratio-spec : {M : Type 1} → statement M
+pub ratio-spec : {M : Type 1} → Rattle.prescaler.proofs.ratio.Statement.statement M
 ratio-spec = tie.close (tie.spec (λ c. search needs) (λ c. search needs) returns add-result returns-2)

@@ -3,7 +3,6 @@ use borrow.Author.Needs.{needs}
 use borrow.Author.Tests.{eq-eqb, ne-eqb}
 use Rattle.rules.specs.Document01.Walk.{vosCode}
 use Rattle.pwr.specs.Walk.{placeAfter}
-use Rattle.pwr.proofs.place_after.Statement.{statement}
 use Rattle.pwr.proofs.place_after.Tie as tie
 
 returns : tie.Need-returns
@@ -40,5 +39,5 @@ returns-8 c =
     let n = c .match .rest in
     simp (ne-eqb _ _ (n .0 .0 .0 .1), ne-eqb _ _ (n .0 .0 .1), ne-eqb _ _ (n .0 .1), ne-eqb _ _ (n .1))
 
-pub place-after-spec : {M : Type 1} → statement M
+pub place-after-spec : {M : Type 1} → Rattle.pwr.proofs.place_after.Statement.statement M
 place-after-spec = tie.close (tie.spec (λ c. search needs) returns returns-2 returns-3 returns-4 returns-5 returns-6 returns-7 returns-8)

@@ -8,7 +8,6 @@ use Rattle.rules.proofs.Document01.Run.{Going, begins, place-fits, read-fits, g
 use Rattle.rules.specs.Words.{shownWords}
 use Rattle.pwr.specs.Walk.{standOf}
 use Rattle.pwr.proofs.Laws.{target-kept}
-use Rattle.pwr.proofs.run.Statement.{statement}
 use Rattle.pwr.proofs.run.Tie as tie
 
 abbrev Inv-loop : tie.InvT-loop
@@ -47,7 +46,7 @@ returns c =
     let e = c .before .before .fresh .ensures .1 in
     (c .before .before .before .shown-count .ensures, ends (voltageStepped (c .before .before .before .before .before .before .args .target)) _ _ _ _ (c .before .loop .inv .0) (c .loop-test .left) (voltageTo (c .before .before .before .before .before .before .args .target)) e)
 
-pub run-spec : {M : Type 1} → statement M
+pub run-spec : {M : Type 1} → Rattle.pwr.proofs.run.Statement.statement M
 run-spec =
     tie.close (tie.spec Inv-loop μ-loop (λ c κs. search needs) (λ c κs. search needs) loop-holds mul-store-words (λ c κs. search needs)
     (λ c κs. search needs) (λ c κs. search needs) mul-k (λ c κs. search needs) add-word (λ c κs. search needs) (λ c κs. search needs)

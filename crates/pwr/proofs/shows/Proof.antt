@@ -3,7 +3,6 @@ use mathlib.Core.Path.{ap}
 use native.Mathlib.Omega.{arith}
 use Rattle.pwr.specs.Walk.{entriesFrom}
 use Rattle.pwr.proofs.Laws.{refused-shown, shown, finished-shown}
-use Rattle.pwr.proofs.shows.Statement.{statement}
 use Rattle.pwr.proofs.shows.Tie as tie
 
 returns : tie.Need-returns
@@ -30,5 +29,5 @@ returns-6 c =
     let n = c .match .rest in
     finished-shown (c .before .before .args .w) (omega arith) (n .0 .0 .0 .1) (n .0 .0 .1) (n .0 .1) (n .1)
 
-pub shows-spec : {M : Type 1} → statement M
+pub shows-spec : {M : Type 1} → Rattle.pwr.proofs.shows.Statement.statement M
 shows-spec = tie.close (tie.spec returns returns-2 returns-3 returns-4 returns-5 returns-6)

@@ -5,7 +5,6 @@ use borrow.Author.Needs.{needs}
 use Rattle.pwr.specs.declared.VoltageWalk.{VoltageWalk}
 use Rattle.pwr.specs.Walk.{standOf, steppedWalk}
 use Rattle.pwr.proofs.Laws.{refused-step, refused-stand, moved-step, stepped-stand}
-use Rattle.pwr.proofs.stepped.Statement.{statement}
 use Rattle.pwr.proofs.stepped.Tie as tie
 
 returns : tie.Need-returns
@@ -18,5 +17,5 @@ returns c =
 returns-2 : tie.Need-returns-2
 returns-2 c = let i = c .before .args in (refused-step (i .w) (i .a) (i .b) (c .if1 .left), refused-stand (i .w) (i .a) (i .b) (c .if1 .left))
 
-pub stepped-spec : {M : Type 1} → statement M
+pub stepped-spec : {M : Type 1} → Rattle.pwr.proofs.stepped.Statement.statement M
 stepped-spec = tie.close (tie.spec (λ c κs. search needs) returns returns-2)

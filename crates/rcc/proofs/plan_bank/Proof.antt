@@ -6,7 +6,6 @@ use lib.ListN.{length}
 use Rattle.types.specs.declared.Refusal.the-variants.{OutsideCodes, BankLength}
 use Rattle.rcc.proofs.Read.{bank-unread, bank-length, bank-answered, refused-keeps}
 use Rattle.rcc.proofs.Promised.{bank-promised}
-use Rattle.rcc.proofs.plan_bank.Statement.{statement}
 use Rattle.rcc.proofs.plan_bank.Tie as tie
 
 returns : tie.Need-returns
@@ -28,7 +27,7 @@ returns-3 c =
     let b = now (k .before .before .before .before .before .before .before .before .before .args .bank) in
     bank-promised _ _ (length b) b (c .before .before .apply .last .1 .0) (k .answer-to .result) (bank-answered _ _ (length b) (y .result) (y .ensures) (not-false _ (k .before .before .before .before .if1 .left)) (k .before .before .before .if2 .left) (k .answer-to .result) (k .answer-to .ensures)) (c .before .before .apply .ensures)
 
-pub plan-bank-spec : {M : Type 1} → statement M
+pub plan-bank-spec : {M : Type 1} → Rattle.rcc.proofs.plan_bank.Statement.statement M
 plan-bank-spec =
     tie.close (tie.spec (λ c κs. search needs) (λ c κs. search needs) returns (λ c κs. search needs) returns-2 (λ c κs. search needs)
     (λ c κs. search needs) (λ c. search needs) returns-3)

@@ -3,7 +3,6 @@ use mathlib.Core.Path.{ap}
 use lib.ListN.{getD}
 use Rattle.report.proofs.Chain.{at-always, at-crystals, at-pll1, at-pll2, at-pll3}
 use borrow.Author.Needs.{needs}
-use Rattle.report.proofs.clock_at.Statement.{statement}
 use Rattle.report.proofs.clock_at.Tie as tie
 
 returns : tie.Need-returns
@@ -21,7 +20,7 @@ returns-4 c = at-pll2 (c .before .before .before .before .before .before .args .
 returns-5 : tie.Need-returns-5
 returns-5 c = at-pll3 (c .before .before .before .before .before .before .args .p) (c .before .before .before .before .before .before .args .k) (c .before .if4 .left) (c .pll-at3 .ensures)
 
-pub clock-at-spec : {M : Type 1} → statement M
+pub clock-at-spec : {M : Type 1} → Rattle.report.proofs.clock_at.Statement.statement M
 clock-at-spec =
     tie.close (tie.spec (λ c. search needs) (λ c. search needs) returns (λ c κs. search needs) returns-2 (λ c κs. search needs) returns-3
     (λ c κs. search needs) returns-4 (λ c κs. search needs) returns-5)

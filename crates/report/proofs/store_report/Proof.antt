@@ -2,7 +2,6 @@
 use borrow.Author.Needs.{needs}
 use Prim.Native.Nat.{_-_}
 use Rattle.report.proofs.Chain.{Going, begins, goes-on, ends}
-use Rattle.report.proofs.store_report.Statement.{statement}
 use Rattle.report.proofs.store_report.Tie as tie
 
 abbrev Inv-loop : tie.InvT-loop
@@ -23,7 +22,7 @@ loop-again c = goes-on _ _ (c .before .before .before .before .before .before .l
 returns : tie.Need-returns Inv-loop μ-loop
 returns c = ends _ _ (c .before .before .before .before .before .before .before .before .before .loop .inv) (c .before .before .before .before .before .before .before .before .loop-test .left) (c .before .before .before .before .before .before .put2 .ensures) (c .before .before .put .ensures)
 
-pub store-report-spec : {M : Type 1} → statement M
+pub store-report-spec : {M : Type 1} → Rattle.report.proofs.store_report.Statement.statement M
 store-report-spec =
     tie.close (tie.spec Inv-loop μ-loop (λ c κs. search needs) loop-holds (λ c. search needs) clock-at-requires (λ c κs. search needs)
     (λ c. search needs) (λ c. search needs) loop-again (λ c κs. search needs) (λ c κs. search needs) (λ c. search needs) returns)

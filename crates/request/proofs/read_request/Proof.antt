@@ -10,7 +10,6 @@ use Rattle.rules.proofs.Document01.BytesWhole.{at-least}
 use Rattle.request.specs.Chips.{chipOk}
 use Rattle.claims.specs.Demands.ByPlaces.{stateOf}
 use Rattle.request.proofs.Reading.{all-bytes, bad-chip, bad-size, bad-form, taken}
-use Rattle.request.proofs.read_request.Statement.{statement}
 use Rattle.request.proofs.read_request.Tie as tie
 
 -- what holds of the chip and of the length on the way
@@ -54,7 +53,7 @@ returns-4 c =
     let well = rw (count k) at (sym (c .before .before .formed .ensures) ∙ not-false _ (c .before .if3 .left)) in
     rw (taken _ _ (good k) (e .if2 .left ∙ sized k) well, c .decode .ensures, k .before .state-of .ensures)
 
-pub read-request-spec : {M : Type 1} → statement M
+pub read-request-spec : {M : Type 1} → Rattle.request.proofs.read_request.Statement.statement M
 read-request-spec =
     tie.close (tie.spec (λ c κs. search needs) (λ c κs. search needs) returns (λ c κs. search needs) (λ c κs. search needs)
     (λ c κs. search needs) returns-2 formed-requires (λ c κs. search needs) returns-3 decode-requires returns-4)

@@ -10,7 +10,6 @@ use Rattle.rules.specs.Document01.Bytes.{sizeOf}
 use Rattle.rules.proofs.Document01.BytesWhole.{at-least}
 use Rattle.request_bytes.specs.Writing.{isWritten}
 use Rattle.request_bytes.proofs.Writing.{then, clocks-length, outputs-length, not-written, room-of, all-stored}
-use Rattle.request_bytes.proofs.write_request.Statement.{statement}
 use Rattle.request_bytes.proofs.write_request.Tie as tie
 
 -- what holds of the room where the request is written
@@ -48,7 +47,7 @@ returns-2 c =
     (then 58 (h2 .put-outputs .ensures) (h3 .put-plls .ensures) (omega (arith, outputs-length (a .request))))
     (omega (arith, clocks-length (a .request))))
 
-pub write-request-spec : {M : Type 1} → statement M
+pub write-request-spec : {M : Type 1} → Rattle.request_bytes.proofs.write_request.Statement.statement M
 write-request-spec =
     tie.close (tie.spec (λ c κs. search needs) returns put-clocks-requires put-outputs-requires put-plls-requires (λ c. search needs)
     returns-2)

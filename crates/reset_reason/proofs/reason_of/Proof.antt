@@ -7,7 +7,6 @@ use lib.Dec.{eqb}
 use borrow.Author.Tests.{ne-eqb}
 use Rattle.rules.specs.Document01.ResetReason.{reasonBy}
 use Rattle.rules.proofs.Document01.ResetReason.{by-set}
-use Rattle.reset_reason.proofs.reason_of.Statement.{statement}
 use Rattle.reset_reason.proofs.reason_of.Tie as tie
 
 -- a set of flags that is not a given one, at its bits
@@ -59,5 +58,5 @@ returns-8 c =
       another f 25 (n .1),
     )
 
-pub reason-of-spec : {M : Type 1} → statement M
+pub reason-of-spec : {M : Type 1} → Rattle.reset_reason.proofs.reason_of.Statement.statement M
 reason-of-spec = tie.close (tie.spec returns returns-2 returns-3 returns-4 returns-5 returns-6 returns-7 returns-8)

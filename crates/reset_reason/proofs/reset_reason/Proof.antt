@@ -2,7 +2,6 @@
 use borrow.Author.Needs.{needs}
 use borrow.Author.Tests.{ne-eqb}
 use Rattle.rules.specs.Document01.ResetReason.{reasonOf, resetOf}
-use Rattle.reset_reason.proofs.reset_reason.Statement.{statement}
 use Rattle.reset_reason.proofs.reset_reason.Tie as tie
 
 returns : tie.Need-returns
@@ -17,5 +16,5 @@ returns-3 : tie.Need-returns-3
 unfolding resetOf
 returns-3 c = rw (ne-eqb _ _ (c .before .if1 .left), ne-eqb _ _ (c .if2 .left))
 
-pub reset-reason-spec : {M : Type 1} → statement M
+pub reset-reason-spec : {M : Type 1} → Rattle.reset_reason.proofs.reset_reason.Statement.statement M
 reset-reason-spec = tie.close (tie.spec (λ c κs. search needs) (λ c κs. search needs) returns returns-2 returns-3)

@@ -2,7 +2,6 @@
 use native.Mathlib.Omega.{arith}
 use borrow.Author.Tests.{ne-eqb}
 use Rattle.rules.specs.Document01.ResetReason.{writeBackOf}
-use Rattle.reset_reason.proofs.write_back_of.Statement.{statement}
 use Rattle.reset_reason.proofs.write_back_of.Tie as tie
 
 returns : tie.Need-returns
@@ -16,5 +15,5 @@ returns-2 : tie.Need-returns-2
 unfolding writeBackOf
 returns-2 c = rw (ne-eqb _ _ (c .if1 .left))
 
-pub write-back-of-spec : {M : Type 1} → statement M
+pub write-back-of-spec : {M : Type 1} → Rattle.reset_reason.proofs.write_back_of.Statement.statement M
 write-back-of-spec = tie.close (tie.spec returns add-result returns-2)

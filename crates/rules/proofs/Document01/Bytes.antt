@@ -19,7 +19,7 @@ use Rattle.rules.specs.Document01.Result as Result
 use Rattle.rules.specs.Document01.Result.{Result, refused, ok}
 use Rattle.rules.specs.Document01.Mco.{mco1Code, mco2Code}
 use Rattle.rules.proofs.Document01.Results.{ok-same, not-ok, bind-ok}
-use Rattle.rules.specs.Document01.Bytes.{Read, Reader, _>>=_, return, byte, code, word, setTo, hertz, flag, mco1Sources, mco1Source, mco2Sources, mco2Source, strategy, pllPart, thirdPart, wordBytes, hertzBytes, flagByte, strategyCode, pllBytes, thirdBytes, AllBytes, Hertz32, Pll32, Third}
+use Rattle.rules.specs.Document01.Bytes.{Read, Reader, _>>=_, return, byte, code, u32le, setTo, hertz, flag, mco1Sources, mco1Source, mco2Sources, mco2Source, strategy, pllPart, thirdPart, u32leBytes, hertzBytes, flagByte, strategyCode, pllBytes, thirdBytes, AllBytes, Hertz32, Pll32, Third}
 
 -- a value that was read, with the bytes after it
 abbrev pub readAs : {A : Type 0} → A → List ℕ → Result (Read A)
@@ -90,7 +90,7 @@ low a n h = add-mul-mod-self-left a 256 n ∙ mod-eq-of-lt h
 
 -- the bytes of a number
 module _ (a b c d : ℕ) (ha : a < 256) (hb : b < 256) (hc : c < 256) (hd : d < 256) where
-  bytes-are : (h : ℕ) → h ≡ a + 256 * b + 65_536 * c + 16_777_216 * d → (rest : List ℕ) → a ∷ b ∷ c ∷ d ∷ rest ≡ wordBytes h ++ rest
+  bytes-are : (h : ℕ) → h ≡ a + 256 * b + 65_536 * c + 16_777_216 * d → (rest : List ℕ) → a ∷ b ∷ c ∷ d ∷ rest ≡ u32leBytes h ++ rest
   bytes-are h e rest =
       let d0 : h ≡ a + 256 * (b + 256 * (c + 256 * d)) = omega arith in
       let b0 : h % 256 ≡ a = rw d0 (low a (b + 256 * (c + 256 * d)) ha) in
@@ -102,26 +102,26 @@ module _ (a b c d : ℕ) (ha : a < 256) (hb : b < 256) (hc : c < 256) (hd : d < 
       let b3 : h / 16_777_216 % 256 ≡ d = rw d3 (mod-eq-of-lt hd) in
       cc
 
-word-only : (bytes : List ℕ) (x : Read ℕ) → AllBytes bytes → word bytes ≡ ok x → Written wordBytes (λ h. h < 4_294_967_296) bytes x
-unfolding word byte
-word-only [] x h e = not-ok e
-word-only (a ∷ []) x h e = not-ok e
-word-only (a ∷ b ∷ []) x h e = not-ok e
-word-only (a ∷ b ∷ c ∷ []) x h e = not-ok e
-word-only (a ∷ b ∷ c ∷ d ∷ rest) x h e =
+u32le-only : (bytes : List ℕ) (x : Read ℕ) → AllBytes bytes → u32le bytes ≡ ok x → Written u32leBytes (λ h. h < 4_294_967_296) bytes x
+unfolding u32le byte
+u32le-only [] x h e = not-ok e
+u32le-only (a ∷ []) x h e = not-ok e
+u32le-only (a ∷ b ∷ []) x h e = not-ok e
+u32le-only (a ∷ b ∷ c ∷ []) x h e = not-ok e
+u32le-only (a ∷ b ∷ c ∷ d ∷ rest) x h e =
     ends e (bytes-are a b c d (h .0) (h .1 .0) (h .1 .1 .0) (h .1 .1 .1 .0) _ refl rest) (h .1 .1 .1 .1) (omega arith)
 
-word-inverse : Inverse word wordBytes (λ h. h < 4_294_967_296)
-unfolding word byte
-word-inverse = record { back = λ a rest g. ap (λ (h : ℕ). readAs h rest) (word-is a g); only = word-only }
+u32le-inverse : Inverse u32le u32leBytes (λ h. h < 4_294_967_296)
+unfolding u32le byte
+u32le-inverse = record { back = λ a rest g. ap (λ (h : ℕ). readAs h rest) (word-is a g); only = u32le-only }
 
 -- ---- hertz
 hertz-back : (a : Hertz) (rest : List ℕ) → Hertz32 a → hertz (hertzBytes a ++ rest) ≡ readAs a rest
 unfolding hertz
-hertz-back Unset rest g = give (code-inverse 2) _ 0 _ (omega arith) (give word-inverse _ 0 rest (omega arith) refl)
-hertz-back (Hz h) rest g = give (code-inverse 2) _ 1 _ (omega arith) (give word-inverse _ h rest g refl)
+hertz-back Unset rest g = give (code-inverse 2) _ 0 _ (omega arith) (give u32le-inverse _ 0 rest (omega arith) refl)
+hertz-back (Hz h) rest g = give (code-inverse 2) _ 1 _ (omega arith) (give u32le-inverse _ h rest g refl)
 
-set-only : (set n : ℕ) (rest : List ℕ) (x : Read Hertz) → AllBytes rest → set < 2 → n < 4_294_967_296 → setTo set n rest ≡ ok x → Written hertzBytes Hertz32 (set ∷ (wordBytes n ++ rest)) x
+set-only : (set n : ℕ) (rest : List ℕ) (x : Read Hertz) → AllBytes rest → set < 2 → n < 4_294_967_296 → setTo set n rest ≡ ok x → Written hertzBytes Hertz32 (set ∷ (u32leBytes n ++ rest)) x
 set-only zero n rest x h s g e =
     by-test (eqb n 0)
     (λ (t : eqb n 0 ≡ true). ends (rw t at e) (rw (eqb-true n 0 t)) h tt)
@@ -133,7 +133,7 @@ hertz-only : (bytes : List ℕ) (x : Read Hertz) → AllBytes bytes → hertz by
 unfolding hertz
 hertz-only bytes x h e =
     take (code-inverse 2) _ x bytes h e λ set l p h s e.
-    take word-inverse _ x l h e λ n rest q h g e.
+    take u32le-inverse _ x l h e λ n rest q h g e.
     rw (p, q) (set-only set n rest x h s g e)
 
 pub hertz-inverse : Inverse hertz hertzBytes Hertz32

@@ -14,7 +14,7 @@ use Rattle.types.specs.declared.Answer.the-variants.{Refused}
 use Rattle.rules.specs.Document01.Refusals.{numberOf, typedNumbers, planNumbers, bankNumbers}
 use Rattle.rules.specs.Document01.Result.{Result, refused, ok, _>>=_, _>>_, require}
 use Rattle.rules.specs.Document01.Chip.{isBit, isHsidiv, chipOf, permission}
-use Rattle.rules.specs.Document01.Bytes.{Read, Reader, fits, byte, end, code, word, setTo, hertz, flag, mco1Source, mco2Source, strategy, pllPart, thirdPart, requestPart}
+use Rattle.rules.specs.Document01.Bytes.{Read, Reader, fits, byte, end, code, u32le, setTo, hertz, flag, mco1Source, mco2Source, strategy, pllPart, thirdPart, requestPart}
 use Rattle.rules.specs.Document01.Plan.{chosenPlan, answered, requestOf, planOf, bankPlanOf}
 use Rattle.rules.specs.Manual.Tree.{among}
 use Rattle.rules.proofs.Document01.Results.{Only, only-require, only-then, only-next}
@@ -52,9 +52,9 @@ module _ (P : Refusal → Type 0) (one : P OutsideCodes) where
   unfolding code
   code-only n bytes = only-then P (byte bytes) _ (byte-only bytes) (λ x. only-then P (fits (ltb (x .value) n) (x .rest)) _ (fits-only (ltb (x .value) n) (x .rest)) (λ y. tt))
 
-  word-only : Refuses word
-  unfolding word
-  word-only bytes =
+  u32le-only : Refuses u32le
+  unfolding u32le
+  u32le-only bytes =
       only-then P (byte bytes) _ (byte-only bytes) (λ a. only-then P (byte (a .rest)) _ (byte-only (a .rest))
       (λ b. only-then P (byte (b .rest)) _ (byte-only (b .rest)) (λ c. only-then P (byte (c .rest)) _ (byte-only (c .rest)) (λ d. tt))))
 
@@ -64,7 +64,7 @@ module _ (P : Refusal → Type 0) (one : P OutsideCodes) where
 
   hertz-only : Refuses hertz
   unfolding hertz
-  hertz-only bytes = only-then P (code 2 bytes) _ (code-only 2 bytes) (λ s. only-then P (word (s .rest)) _ (word-only (s .rest)) (λ n. set-only (s .value) (n .value) (n .rest)))
+  hertz-only bytes = only-then P (code 2 bytes) _ (code-only 2 bytes) (λ s. only-then P (u32le (s .rest)) _ (u32le-only (s .rest)) (λ n. set-only (s .value) (n .value) (n .rest)))
 
   flag-only : Refuses flag
   unfolding flag

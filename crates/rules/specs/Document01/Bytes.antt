@@ -67,8 +67,8 @@ code n = do
   return b
 
 -- 4 bytes, little-endian
-unfoldable pub word : Reader ℕ
-word = do
+unfoldable pub u32le : Reader ℕ
+u32le = do
   b0 ← byte
   b1 ← byte
   b2 ← byte
@@ -86,7 +86,7 @@ setTo (suc set) number = return (Hz number)
 unfoldable pub hertz : Reader Hertz
 hertz = do
   set ← code 2
-  number ← word
+  number ← u32le
   setTo set number
 
 -- flag, MCO source and strategy take a byte each
@@ -193,13 +193,13 @@ requestPart three = do
   })
 
 -- ---- writing
-abbrev pub wordBytes : ℕ → List ℕ
-wordBytes h = h % 256 ∷ h / 256 % 256 ∷ h / 65_536 % 256 ∷ h / 16_777_216 % 256 ∷ []
+abbrev pub u32leBytes : ℕ → List ℕ
+u32leBytes h = h % 256 ∷ h / 256 % 256 ∷ h / 65_536 % 256 ∷ h / 16_777_216 % 256 ∷ []
 
 -- a hertz
 abbrev pub hertzBytes : Hertz → List ℕ
 hertzBytes Unset = 0 ∷ 0 ∷ 0 ∷ 0 ∷ 0 ∷ []
-hertzBytes (Hz h) = 1 ∷ wordBytes h
+hertzBytes (Hz h) = 1 ∷ u32leBytes h
 
 -- a flag
 abbrev pub flagByte : Bool → ℕ

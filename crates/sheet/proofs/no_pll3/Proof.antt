@@ -4,7 +4,6 @@ use mathlib.Core.Path.{sym, _∙_}
 use Rattle.sheet.proofs.Zeros.{Zeros, begins, no-zero, goes-on, ends}
 use denote.Ref.{now}
 use borrow.Author.Needs.{needs}
-use Rattle.sheet.proofs.no_pll3.Statement.{statement}
 use Rattle.sheet.proofs.no_pll3.Tie as tie
 
 abbrev Inv-loop : tie.InvT-loop
@@ -25,6 +24,6 @@ loop-again c = goes-on _ (c .before .before .before .loop .i) (c .before .before
 returns-2 : tie.Need-returns-2 Inv-loop μ-loop
 returns-2 c = ends _ (c .before .loop .i) (c .before .loop .inv) (c .loop-test .left)
 
-pub no-pll3-spec : {M : Type 1} → statement M
+pub no-pll3-spec : {M : Type 1} → Rattle.sheet.proofs.no_pll3.Statement.statement M
 no-pll3-spec =
     tie.close (tie.spec Inv-loop μ-loop loop-holds (λ c κs. tt) returns (λ c. search needs) (λ c. search needs) loop-again returns-2)

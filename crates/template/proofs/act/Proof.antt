@@ -4,7 +4,6 @@ use borrow.Author.Needs.{needs}
 use borrow.Author.Tests.{not-true, not-false}
 use Rattle.template.proofs.Reading.{not-shown, opened, as-it-is, nothing-more, commanded}
 use Rattle.template.proofs.Written.{nothing, told}
-use Rattle.template.proofs.act.Statement.{statement}
 use Rattle.template.proofs.act.Tie as tie
 
 returns : tie.Need-returns
@@ -22,7 +21,7 @@ returns-4 c = let a = c .before .before .before .before .before .before .before 
 returns-5 : tie.Need-returns-5
 returns-5 c = let a = c .before .before .before .before .before .before .before .before .before .before .before .before .args in told (commanded (now (a .names)) (a .n) (a .s) (a .b) (not-false _ (c .before .before .before .before .before .before .before .before .if1 .left)) (c .before .before .before .before .before .before .if2 .left) (c .before .before .before .before .if4 .left)) (c .before .before .command .ensures)
 
-pub act-spec : {M : Type 1} → statement M
+pub act-spec : {M : Type 1} → Rattle.template.proofs.act.Statement.statement M
 act-spec =
     tie.close (tie.spec returns returns-2 (λ c κs. search needs) (λ c. search needs) returns-3 returns-4 (λ c κs. search needs)
     (λ c. search needs) returns-5)

@@ -5,7 +5,6 @@ use lib.ListN.{length}
 use borrow.Author.Needs.{needs}
 use Rattle.template.proofs.Whole.{Going, starts, goes-on, whole}
 use Rattle.template.proofs.Written.{within, kept}
-use Rattle.template.proofs.fill.Statement.{statement}
 use Rattle.template.proofs.fill.Tie as tie
 
 abbrev Inv-loop : tie.InvT-loop
@@ -32,7 +31,7 @@ same-length c = kept (c .before .loop .inv .wrote)
 returns : tie.Need-returns Inv-loop μ-loop
 returns c = whole _ _ _ (c .before .loop .inv) (c .loop-test .left)
 
-pub fill-spec : {M : Type 1} → statement M
+pub fill-spec : {M : Type 1} → Rattle.template.proofs.fill.Statement.statement M
 fill-spec =
     tie.close (tie.spec Inv-loop μ-loop (λ c κs. search needs) loop-holds (λ c κs. search needs) (λ c. search needs) act-requires
     next-state-requires (λ c. search needs) (λ c. search needs) loop-again same-length returns)

@@ -1,6 +1,5 @@
 -- `template::is_digit` meets its contract.
 use borrow.Author.Tests.{le-leb, lt-leb}
-use Rattle.template.proofs.is_digit.Statement.{statement}
 use Rattle.template.proofs.is_digit.Tie as tie
 
 returns : tie.Need-returns
@@ -9,5 +8,5 @@ returns c = rw (lt-leb 48 (c .before .args .b) (c .if1 .taken))
 returns-2 : tie.Need-returns-2
 returns-2 c = rw (le-leb 48 (c .before .args .b) (c .if1 .left))
 
-pub is-digit-spec : {M : Type 1} → statement M
+pub is-digit-spec : {M : Type 1} → Rattle.template.proofs.is_digit.Statement.statement M
 is-digit-spec = tie.close (tie.spec returns returns-2)

@@ -2,7 +2,6 @@
 use mathlib.Core.Path.{_∙_}
 use borrow.Author.Needs.{needs}
 use Rattle.template.proofs.Reading.{in-text, to-braces, to-text, waits, within-braces}
-use Rattle.template.proofs.next_state.Statement.{statement}
 use Rattle.template.proofs.next_state.Tie as tie
 
 returns : tie.Need-returns
@@ -20,7 +19,7 @@ returns-4 c = let a = c .before .before .before .before .before .args in waits (
 returns-5 : tie.Need-returns-5
 returns-5 c = let a = c .before .before .before .before .before .before .args in c .in-braces .ensures ∙ within-braces (a .n) (a .s) (a .b) (c .before .before .before .before .if1 .left) (c .before .before .before .if3 .left) (c .before .if4 .left)
 
-pub next-state-spec : {M : Type 1} → statement M
+pub next-state-spec : {M : Type 1} → Rattle.template.proofs.next_state.Statement.statement M
 next-state-spec =
     tie.close (tie.spec (λ c κs. search needs) returns returns-2 (λ c κs. search needs) returns-3 returns-4 (λ c κs. search needs)
     returns-5)

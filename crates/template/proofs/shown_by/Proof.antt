@@ -1,6 +1,5 @@
 -- `template::shown_by` meets its contract.
 use borrow.Author.Tests.{eq-eqb, ne-eqb}
-use Rattle.template.proofs.shown_by.Statement.{statement}
 use Rattle.template.proofs.shown_by.Tie as tie
 
 returns : tie.Need-returns
@@ -15,5 +14,5 @@ returns-3 c = let b = c .before .before .before .args .b in rw (ne-eqb b 63 (c .
 returns-4 : tie.Need-returns-4
 returns-4 c = let b = c .before .before .before .args .b in rw (ne-eqb b 63 (c .before .before .if1 .left), ne-eqb b 33 (c .before .if2 .left), ne-eqb b 46 (c .if3 .left))
 
-pub shown-by-spec : {M : Type 1} → statement M
+pub shown-by-spec : {M : Type 1} → Rattle.template.proofs.shown_by.Statement.statement M
 shown-by-spec = tie.close (tie.spec returns returns-2 returns-3 returns-4)

@@ -3,7 +3,6 @@ use Prim.Native.Nat.{_-_}
 use lib.ListN.{length}
 use Rattle.text.proofs.Parts.{Searched, begins, found, goes-on, ends}
 use borrow.Author.Needs.{needs}
-use Rattle.text.proofs.find.Statement.{statement}
 use Rattle.text.proofs.find.Tie as tie
 
 abbrev Inv-loop : tie.InvT-loop
@@ -24,6 +23,6 @@ loop-again c = let l = c .before .before .before .loop in goes-on _ _ (l .i) (l 
 returns-2 : tie.Need-returns-2 Inv-loop μ-loop
 returns-2 c = ends _ _ (c .before .loop .i) (c .before .loop .inv) (c .loop-test .left)
 
-pub find-spec : {M : Type 1} → statement M
+pub find-spec : {M : Type 1} → Rattle.text.proofs.find.Statement.statement M
 find-spec =
     tie.close (tie.spec Inv-loop μ-loop loop-holds (λ c. search needs) returns (λ c. search needs) (λ c. search needs) loop-again returns-2)

@@ -7,7 +7,6 @@ use lib.Seq.{length-take-le}
 use Rattle.text.proofs.Digits.{unit-at-most, no-unit, in-unit, nothing}
 use denote.Ref.{now}
 use borrow.Author.Needs.{needs}
-use Rattle.text.proofs.hertz.Statement.{statement}
 use Rattle.text.proofs.hertz.Tie as tie
 
 returns : tie.Need-returns
@@ -25,7 +24,7 @@ pointed-requires-3 c κs = rw (c .before .before .unit-of .ensures) (unit-at-mos
 returns-3 : tie.Need-returns-3
 returns-3 c = in-unit (now (c .before .before .before .before .before .before .before .args .s)) (λ e. c .before .before .if2 .left (c .before .before .before .unit-of .ensures ∙ e)) (rw (c .before .before .before .unit-of .ensures) at (c .pointed3 .ensures))
 
-pub hertz-spec : {M : Type 1} → statement M
+pub hertz-spec : {M : Type 1} → Rattle.text.proofs.hertz.Statement.statement M
 hertz-spec =
     tie.close (tie.spec (λ c κs. search needs) returns (λ c. search needs) (λ c. search needs) (λ c κs. search needs) (λ c κs. search needs)
     returns-2 slice-aggregate-pointed pointed-requires-3 returns-3)

@@ -4,7 +4,6 @@ use lib.ListN.{length}
 use Rattle.text.proofs.Named.{Compared, begins, other, goes-on, ends}
 use mathlib.Core.Path.{_∙_}
 use borrow.Author.Needs.{needs}
-use Rattle.text.proofs.is_name.Statement.{statement}
 use Rattle.text.proofs.is_name.Tie as tie
 
 abbrev Inv-loop : tie.InvT-loop
@@ -25,7 +24,7 @@ loop-again c = let l = c .before .before .before .before .loop in goes-on _ _ (l
 returns-2 : tie.Need-returns-2 Inv-loop μ-loop
 returns-2 c = ends _ _ (c .before .loop .i) (c .before .loop .inv) (c .loop-test .left)
 
-pub is-name-spec : {M : Type 1} → statement M
+pub is-name-spec : {M : Type 1} → Rattle.text.proofs.is_name.Statement.statement M
 is-name-spec =
     tie.close (tie.spec Inv-loop μ-loop loop-holds (λ c. search needs) (λ c κs. search needs) returns (λ c. search needs)
     (λ c. search needs) loop-again returns-2)

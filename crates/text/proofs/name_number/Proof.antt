@@ -3,7 +3,6 @@ use Prim.Native.Nat.{_-_}
 use Rattle.text.proofs.Named.{Passed, none-passed, pass, named, no-name}
 use mathlib.Core.Path.{sym, _∙_}
 use borrow.Author.Needs.{needs}
-use Rattle.text.proofs.name_number.Statement.{statement}
 use Rattle.text.proofs.name_number.Tie as tie
 
 abbrev Inv-loop : tie.InvT-loop
@@ -24,7 +23,7 @@ loop-again c = let l = c .before .before .before .before .loop in pass _ _ (l .k
 returns-2 : tie.Need-returns-2 Inv-loop μ-loop
 returns-2 c = no-name _ _ (c .before .loop .k) (c .before .loop .inv) (c .loop-test .left)
 
-pub name-number-spec : {M : Type 1} → statement M
+pub name-number-spec : {M : Type 1} → Rattle.text.proofs.name_number.Statement.statement M
 name-number-spec =
     tie.close (tie.spec Inv-loop μ-loop loop-holds (λ c. search needs) (λ c. search needs) (λ c. search needs) (λ c. search needs)
     (λ c. search needs) (λ c κs. search needs) returns (λ c. search needs) (λ c. search needs) loop-again returns-2)

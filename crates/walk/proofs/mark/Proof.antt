@@ -2,7 +2,6 @@
 use lib.Dec.{eqb}
 use Rattle.walk.proofs.Places.{waits, checks, small}
 use borrow.Author.Needs.{needs}
-use Rattle.walk.proofs.mark.Statement.{statement}
 use Rattle.walk.proofs.mark.Tie as tie
 
 sub-result : tie.Need-sub-result
@@ -17,7 +16,7 @@ returns-6 c = rw (c .before .e2 .given .1, waits)
 returns-7 : tie.Need-returns-7
 returns-7 c = rw (c .before .e3 .given .1, checks)
 
-pub mark-spec : {M : Type 1} → statement M
+pub mark-spec : {M : Type 1} → Rattle.walk.proofs.mark.Statement.statement M
 mark-spec =
     tie.close (tie.spec (λ c. search needs) (λ c. search needs) (λ c. search needs) (λ c. search needs) (λ c. search needs)
     (λ c. search needs) (λ c. search needs) (λ c. search needs) (λ c. search needs) (λ c. search needs) sub-result (λ c. search needs)

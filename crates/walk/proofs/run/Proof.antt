@@ -7,7 +7,6 @@ use Rattle.rules.specs.Document01.Walk.{steppedOf, freshOf}
 use Rattle.rules.proofs.Document01.Run.{Going, begins, place-fits, read-fits, goes-on, same-length as same-length-of, ends}
 use Rattle.rules.specs.Words.{shownWords}
 use Rattle.walk.specs.Walk.{standOf}
-use Rattle.walk.proofs.run.Statement.{statement}
 use Rattle.walk.proofs.run.Tie as tie
 
 abbrev Inv-loop : tie.InvT-loop
@@ -43,7 +42,7 @@ returns c =
     let e = c .before .before .fresh .ensures .1 in
     (c .before .before .before .shown-count .ensures, ends steppedOf _ _ _ _ (c .before .loop .inv) (c .loop-test .left) (freshOf (c .before .before .before .before .before .before .args .planned)) e)
 
-pub run-spec : {M : Type 1} → statement M
+pub run-spec : {M : Type 1} → Rattle.walk.proofs.run.Statement.statement M
 run-spec =
     tie.close (tie.spec Inv-loop μ-loop (λ c κs. search needs) (λ c κs. search needs) loop-holds mul-store-words (λ c κs. search needs)
     (λ c κs. search needs) (λ c κs. search needs) mul-k (λ c κs. search needs) add-word (λ c κs. search needs) (λ c κs. search needs)

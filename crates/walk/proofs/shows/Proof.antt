@@ -3,7 +3,6 @@ use mathlib.Core.Path.{sym, _∙_}
 use Rattle.entries.specs.declared.EntryAt.the-variants.{Is, Past}
 use Rattle.walk.proofs.Places.{by-check, by-refusal, by-entry}
 use borrow.Author.Needs.{needs}
-use Rattle.walk.proofs.shows.Statement.{statement}
 use Rattle.walk.proofs.shows.Tie as tie
 
 returns : tie.Need-returns
@@ -18,7 +17,7 @@ returns-3 c = by-entry (c .before .before .before .before .before .before .befor
 returns-4 : tie.Need-returns-4
 returns-4 c = by-entry (c .before .before .before .before .before .before .before .args .w) Past (c .before .before .before .before .before .before .if1 .left) (c .before .before .before .enum-told .given .1) (sym (c .enum-told2 .given .1) ∙ c .before .before .entry-at .ensures)
 
-pub shows-spec : {M : Type 1} → statement M
+pub shows-spec : {M : Type 1} → Rattle.walk.proofs.shows.Statement.statement M
 shows-spec =
     tie.close (tie.spec returns (λ c. search needs) returns-2 (λ c. search needs) (λ c κs. search needs) (λ c. search needs) returns-3
     (λ c. search needs) returns-4)

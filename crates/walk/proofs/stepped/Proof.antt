@@ -4,7 +4,6 @@ use native.Mathlib.Omega.{arith}
 use Rattle.walk.proofs.Places.{marked-fits, marked-on, marked-down, marked-still}
 use Rattle.walk.proofs.Laws.{both}
 use borrow.Author.Needs.{needs}
-use Rattle.walk.proofs.stepped.Statement.{statement}
 use Rattle.walk.proofs.stepped.Tie as tie
 
 add-n : tie.Need-add-n
@@ -34,5 +33,5 @@ returns-3 c =
     both (x .w) (x .a) (x .b)
     (marked-still (x .w) (x .a) (x .b) _ (k .before .shows .ensures) (λ h. c .before .if1 .left (e ∙ h)) (λ h. c .if2 .left (e ∙ h)))
 
-pub stepped-spec : {M : Type 1} → statement M
+pub stepped-spec : {M : Type 1} → Rattle.walk.proofs.stepped.Statement.statement M
 stepped-spec = tie.close (tie.spec (λ c κs. search needs) (λ c κs. search needs) add-n returns returns-2 returns-3)

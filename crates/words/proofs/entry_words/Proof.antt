@@ -1,6 +1,5 @@
 -- `words::entry_words` meets its contract.
 use borrow.Author.Needs.{needs}
-use Rattle.words.proofs.entry_words.Statement.{statement}
 use Rattle.words.proofs.entry_words.Tie as tie
 
 returns : tie.Need-returns
@@ -27,7 +26,7 @@ returns-7 c = rw (c .before .before .e7 .given .1) (c .nine7 .ensures)
 returns-8 : tie.Need-returns-8
 returns-8 c = rw (c .before .before .e8 .given .1) (c .nine8 .ensures)
 
-pub entry-words-spec : {M : Type 1} → statement M
+pub entry-words-spec : {M : Type 1} → Rattle.words.proofs.entry_words.Statement.statement M
 entry-words-spec =
     tie.close (tie.spec (λ c. search needs) (λ c κs. search needs) (λ c. search needs) (λ c κs. search needs) (λ c. search needs)
     (λ c κs. search needs) (λ c. search needs) (λ c κs. search needs) (λ c. search needs) (λ c κs. search needs) (λ c. search needs)

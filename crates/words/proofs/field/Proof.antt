@@ -1,7 +1,6 @@
 -- `words::field` meets its contract.
 use borrow.Author.Tests.{lt-ltb, le-ltb}
 use borrow.Author.Needs.{needs}
-use Rattle.words.proofs.field.Statement.{statement}
 use Rattle.words.proofs.field.Tie as tie
 
 returns : tie.Need-returns
@@ -10,5 +9,5 @@ returns c = rw (lt-ltb _ _ (c .if1 .taken))
 returns-2 : tie.Need-returns-2
 returns-2 c = rw (le-ltb _ _ (c .if1 .left))
 
-pub field-spec : {M : Type 1} → statement M
+pub field-spec : {M : Type 1} → Rattle.words.proofs.field.Statement.statement M
 field-spec = tie.close (tie.spec (λ c. search needs) (λ c. search needs) returns returns-2)

@@ -4,7 +4,6 @@ use Prim.Native.Nat.{_-_}
 use native.Mathlib.Omega.{arith}
 use Rattle.words.proofs.Stored.{no-room, too-late, Storing, begins, same-length as same-length-of, place, goes-on, ends}
 use borrow.Author.Needs.{needs}
-use Rattle.words.proofs.store_words.Statement.{statement}
 use Rattle.words.proofs.store_words.Tie as tie
 
 abbrev Inv-loop : tie.InvT-loop
@@ -40,7 +39,7 @@ same-length c = same-length-of (now (c .before .before .before .before .args .ou
 returns-3 : tie.Need-returns-3 Inv-loop μ-loop
 returns-3 c = ends (now (c .before .before .before .before .args .out)) (c .before .before .before .before .args .at) (c .before .before .before .before .args .t3) (c .before .loop .inv) (c .loop-test .left)
 
-pub store-words-spec : {M : Type 1} → statement M
+pub store-words-spec : {M : Type 1} → Rattle.words.proofs.store_words.Statement.statement M
 store-words-spec =
     tie.close (tie.spec Inv-loop μ-loop returns returns-2 loop-holds (λ c. search needs) (λ c. search needs) add-out (λ c. search needs)
     slice-write-out (λ c. search needs) (λ c. search needs) loop-again same-length returns-3)

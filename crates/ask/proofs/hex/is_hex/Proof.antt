@@ -4,7 +4,6 @@ use Prim.Native.Nat.{_-_}
 use lib.ListN.{length}
 use Rattle.ask.proofs.Pairs.{Tested, begins, no-digit, goes-on, ends}
 use borrow.Author.Needs.{needs}
-use Rattle.ask.proofs.hex.is_hex.Statement.{statement}
 use Rattle.ask.proofs.hex.is_hex.Tie as tie
 
 abbrev Inv-loop : tie.InvT-loop
@@ -25,7 +24,7 @@ loop-again c = goes-on _ (c .before .before .before .before .loop .i) (c .before
 returns-2 : tie.Need-returns-2 Inv-loop μ-loop
 returns-2 c = ends _ (c .before .loop .i) (c .before .loop .inv) (c .loop-test .left)
 
-pub is-hex-spec : {M : Type 1} → statement M
+pub is-hex-spec : {M : Type 1} → Rattle.ask.proofs.hex.is_hex.Statement.statement M
 is-hex-spec =
     tie.close (tie.spec Inv-loop μ-loop loop-holds (λ c. search needs) (λ c κs. tt) returns (λ c. search needs) (λ c. search needs)
     loop-again returns-2)

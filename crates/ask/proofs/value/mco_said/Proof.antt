@@ -7,7 +7,6 @@ use Rattle.ask.specs.Words.{mcoSaid}
 use Rattle.text.proofs.Parts.{within}
 use borrow.Rule.Slice.PartAt.{part-to-end}
 use borrow.Author.Needs.{needs}
-use Rattle.ask.proofs.value.mco_said.Statement.{statement}
 use Rattle.ask.proofs.value.mco_said.Tie as tie
 
 returns : tie.Need-returns
@@ -31,7 +30,7 @@ returns-3 : tie.Need-returns-3
 unfolding mcoSaid
 returns-3 c = let a = c .before .before .before .before .before .before .args in rw (lt-ltb _ _ (c .before .before .before .before .if1 .left), ← c .before .before .before .before .before .before .pre .1, ne-eqb _ _ (c .before .before .before .if2 .left)) (rw (c .before .hertz .ensures, part-to-end (now (a .value)) (a .colon + 1)) at (c .mco-hertz .ensures))
 
-pub mco-said-spec : {M : Type 1} → statement M
+pub mco-said-spec : {M : Type 1} → Rattle.ask.proofs.value.mco_said.Statement.statement M
 mco-said-spec =
     tie.close (tie.spec (λ c κs. tt) returns (λ c. search needs) returns-2 add-from sub-hertz part-hertz-start (λ c. search needs)
     (λ c κs. tt) (λ c κs. tt) returns-3)

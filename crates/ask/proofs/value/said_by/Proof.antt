@@ -8,7 +8,6 @@ use Rattle.text.proofs.Parts.{within}
 use Rattle.ask.proofs.Keys.{kind-at-most}
 use borrow.Rule.Slice.PartAt.{part-to-end}
 use borrow.Author.Needs.{needs}
-use Rattle.ask.proofs.value.said_by.Statement.{statement}
 use Rattle.ask.proofs.value.said_by.Tie as tie
 
 bare-said-requires : tie.Need-bare-said-requires
@@ -34,7 +33,7 @@ returns-2 : tie.Need-returns-2
 unfolding saidBy
 returns-2 c = let a = c .before .before .before .before .before .before .args in rw (← c .before .before .before .before .before .before .pre .0, ← c .before .before .before .before .before .before .pre .1, ne-eqb _ _ (c .before .before .if1 .left)) (rw (c .before .before .before .before .kind-of .ensures, c .before .before .before .place-of .ensures, part-to-end (now (a .word)) (a .sign + 1)) at (c .value-said .ensures))
 
-pub said-by-spec : {M : Type 1} → statement M
+pub said-by-spec : {M : Type 1} → Rattle.ask.proofs.value.said_by.Statement.statement M
 said-by-spec =
     tie.close (tie.spec (λ c κs. tt) (λ c κs. tt) bare-said-requires returns add-from sub-value-said part-value-said-start
     (λ c. search needs) value-said-requires returns-2)

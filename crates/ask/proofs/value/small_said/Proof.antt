@@ -1,6 +1,5 @@
 -- `ask::value::small_said` meets its contract.
 use borrow.Author.Needs.{needs}
-use Rattle.ask.proofs.value.small_said.Statement.{statement}
 use Rattle.ask.proofs.value.small_said.Tie as tie
 
 returns : tie.Need-returns
@@ -9,6 +8,6 @@ returns c = rw (c .before .enum-told .given .1) (c .wrong-by .ensures)
 returns-2 : tie.Need-returns-2
 returns-2 c = rw (c .before .before .n .given .1) (c .one-byte .ensures)
 
-pub small-said-spec : {M : Type 1} → statement M
+pub small-said-spec : {M : Type 1} → Rattle.ask.proofs.value.small_said.Statement.statement M
 small-said-spec =
     tie.close (tie.spec (λ c. search needs) (λ c κs. tt) returns (λ c. search needs) (λ c. search needs) (λ c κs. search needs) returns-2)

@@ -2,7 +2,6 @@
 use borrow.Author.Tests.{ne-eqb}
 use Rattle.ask.specs.Words.{valueSaid}
 use borrow.Author.Needs.{needs}
-use Rattle.ask.proofs.value.value_said.Statement.{statement}
 use Rattle.ask.proofs.value.value_said.Tie as tie
 
 returns : tie.Need-returns
@@ -35,7 +34,7 @@ returns-8 : tie.Need-returns-8
 unfolding valueSaid
 returns-8 c = let k = c .before .before .before .args .kind in let r = c .before .match .rest in rw (ne-eqb k 0 (r .0 .0 .0 .0 .0 .0 .1), ne-eqb k 2 (r .0 .0 .0 .0 .0 .1), ne-eqb k 3 (r .0 .0 .0 .0 .1), ne-eqb k 4 (r .0 .0 .0 .1), ne-eqb k 5 (r .0 .0 .1), ne-eqb k 6 (r .0 .1), ne-eqb k 7 (r .1)) (c .wrong-by .ensures)
 
-pub value-said-spec : {M : Type 1} → statement M
+pub value-said-spec : {M : Type 1} → Rattle.ask.proofs.value.value_said.Statement.statement M
 value-said-spec =
     tie.close (tie.spec (λ c κs. tt) (λ c κs. tt) returns (λ c κs. tt) returns-2 (λ c κs. tt) returns-3 (λ c κs. tt) (λ c κs. search needs)
     returns-4 (λ c κs. tt) (λ c κs. search needs) returns-5 (λ c κs. tt) (λ c κs. tt) returns-6 (λ c κs. tt) (λ c κs. search needs)

@@ -5,7 +5,6 @@ use Rattle.types.specs.declared.Planned.{Planned}
 use Rattle.rules.specs.Document01.Refusals.{codeOf}
 use Rattle.clock_api.specs.Calls.{reportBy}
 use borrow.Author.Needs.{needs}
-use Rattle.clock_api.proofs.both.clock_plan_bank.Statement.{statement}
 use Rattle.clock_api.proofs.both.clock_plan_bank.Tie as tie
 
 returns : tie.Need-returns
@@ -16,5 +15,5 @@ returns c =
     let told = c .before .before .report-by .ensures in
     (told .0 ∙ ap (λ (z : Planned). codeOf (z .answer)) e, (told .1 ∙ ap (λ (z : Planned). reportBy (z .answer) z (now (a .report))) e, k .bank-asked .ensures .1))
 
-pub clock-plan-bank-spec : {M : Type 1} → statement M
+pub clock-plan-bank-spec : {M : Type 1} → Rattle.clock_api.proofs.both.clock_plan_bank.Statement.statement M
 clock-plan-bank-spec = tie.close (tie.spec (λ c κs. search needs) (λ c κs. search needs) (λ c. search needs) (λ c. search needs) returns)

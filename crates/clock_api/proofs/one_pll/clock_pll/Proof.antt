@@ -4,7 +4,6 @@ use borrow.Author.Tests.{not-true, not-false}
 use Rattle.request.specs.Request.{partOf, partRead}
 use Rattle.clock_api.proofs.OnePll.{no-room, no-code, no-part, answered}
 use borrow.Author.Needs.{needs}
-use Rattle.clock_api.proofs.one_pll.clock_pll.Statement.{statement}
 use Rattle.clock_api.proofs.one_pll.clock_pll.Tie as tie
 
 returns : tie.Need-returns
@@ -33,7 +32,7 @@ returns-4 c =
     rw (← s .read-part .ensures)
     (answered (a .odd) (a .source) _ (now (a .out)) (s .before .before .if1 .left) (s .before .if2 .left) (not-false _ (p .before .before .if3 .left)) (p .plan-pll .ensures) (t .stored .ensures))
 
-pub clock-pll-spec : {M : Type 1} → statement M
+pub clock-pll-spec : {M : Type 1} → Rattle.clock_api.proofs.one_pll.clock_pll.Statement.statement M
 clock-pll-spec =
     tie.close (tie.spec returns returns-2 (λ c κs. search needs) returns-3 (λ c κs. search needs) (λ c κs. search needs) (λ c. search needs)
     returns-4)

@@ -1,7 +1,6 @@
 -- `clock_leaves::prescalers::output` meets its contract.
 use mathlib.Core.Path.{refl}
 use borrow.Author.Needs.{needs}
-use Rattle.clock_leaves.proofs.prescalers.output.Statement.{statement}
 use Rattle.clock_leaves.proofs.prescalers.output.Tie as tie
 
 returns : tie.Need-returns
@@ -13,7 +12,7 @@ returns-2 c =
     let s = t .before .before in
     rw (s .before .before .before .x2 .given .1, t .three .ensures .0, t .three .ensures .1, s .hertz-of .ensures, s .before .set-of .ensures) (refl, refl)
 
-pub output-spec : {M : Type 1} → statement M
+pub output-spec : {M : Type 1} → Rattle.clock_leaves.proofs.prescalers.output.Statement.statement M
 output-spec =
     tie.close (tie.spec (λ c. search needs) (λ c κs. search needs) (λ c. search needs) (λ c κs. search needs) (λ c κs. search needs)
     (λ c κs. search needs) returns (λ c. search needs) returns-2)

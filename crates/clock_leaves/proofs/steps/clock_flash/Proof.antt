@@ -2,7 +2,6 @@
 use native.Mathlib.Omega.{arith}
 use borrow.Author.Needs.{needs}
 use Rattle.clock_leaves.proofs.WaitStates.{no-clock, no-scale, by-scale}
-use Rattle.clock_leaves.proofs.steps.clock_flash.Statement.{statement}
 use Rattle.clock_leaves.proofs.steps.clock_flash.Tie as tie
 
 returns : tie.Need-returns
@@ -23,7 +22,7 @@ returns-5 c = by-scale _ _ 3 _ (c .before .before .if1 .left) (omega arith) (ome
 returns-6 : tie.Need-returns-6
 returns-6 c = no-scale _ _ (omega arith)
 
-pub clock-flash-spec : {M : Type 1} → statement M
+pub clock-flash-spec : {M : Type 1} → Rattle.clock_leaves.proofs.steps.clock_flash.Statement.statement M
 clock-flash-spec =
     tie.close (tie.spec returns (λ c κs. search needs) (λ c κs. search needs) (λ c κs. search needs) (λ c κs. search needs) returns-2
     returns-3 returns-4 returns-5 returns-6)

@@ -5,7 +5,6 @@ use native.Mathlib.Omega.{arith}
 use borrow.Author.Needs.{needs}
 use Rattle.flash.specs.Flash.{packed}
 use Rattle.flash.proofs.Small.{small-waits}
-use Rattle.clock_leaves.proofs.steps.wait_states.Statement.{statement}
 use Rattle.clock_leaves.proofs.steps.wait_states.Tie as tie
 
 mul-result : tie.Need-mul-result
@@ -25,5 +24,5 @@ add-result c =
 returns : tie.Need-returns
 returns c = ap packed (c .before .before .flash-setup .ensures)
 
-pub wait-states-spec : {M : Type 1} → statement M
+pub wait-states-spec : {M : Type 1} → Rattle.clock_leaves.proofs.steps.wait_states.Statement.statement M
 wait-states-spec = tie.close (tie.spec (λ c κs. search needs) mul-result add-result returns)

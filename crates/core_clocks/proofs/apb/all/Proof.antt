@@ -1,6 +1,5 @@
 -- `core_clocks::apb::all` meets its contract.
 use borrow.Author.Needs.{needs}
-use Rattle.core_clocks.proofs.apb.all.Statement.{statement}
 use Rattle.core_clocks.proofs.apb.all.Tie as tie
 
 returns : tie.Need-returns
@@ -15,7 +14,7 @@ returns-3 c = rw (c .before .before .before .before .before .before .before .fir
 returns-4 : tie.Need-returns-4
 returns-4 c = rw (c .before .before .before .before .before .before .before .first2 .given .1, c .before .before .before .before .second2 .given .1, c .before .third2 .given .1)
 
-pub all-spec : {M : Type 1} → statement M
+pub all-spec : {M : Type 1} → Rattle.core_clocks.proofs.apb.all.Statement.statement M
 all-spec =
     tie.close (tie.spec (λ c. search needs) returns (λ c. search needs) (λ c. search needs) returns-2 (λ c. search needs)
     (λ c. search needs) returns-3 (λ c. search needs) returns-4)

@@ -1,6 +1,5 @@
 -- `core_clocks::mco::both` meets its contract.
 use borrow.Author.Needs.{needs}
-use Rattle.core_clocks.proofs.mco.both.Statement.{statement}
 use Rattle.core_clocks.proofs.mco.both.Tie as tie
 
 returns : tie.Need-returns
@@ -12,5 +11,5 @@ returns-2 c = rw (c .before .before .before .before .first2 .given .1, c .before
 returns-3 : tie.Need-returns-3
 returns-3 c = rw (c .before .before .before .before .first2 .given .1, c .before .second2 .given .1)
 
-pub both-spec : {M : Type 1} → statement M
+pub both-spec : {M : Type 1} → Rattle.core_clocks.proofs.mco.both.Statement.statement M
 both-spec = tie.close (tie.spec (λ c. search needs) returns (λ c. search needs) (λ c. search needs) returns-2 (λ c. search needs) returns-3)

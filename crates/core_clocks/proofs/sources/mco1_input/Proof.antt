@@ -1,7 +1,6 @@
 -- `core_clocks::sources::mco1_input` meets its contract.
 use Rattle.rules.specs.Document01.Mco.{mco1Input}
 use borrow.Author.Needs.{needs}
-use Rattle.core_clocks.proofs.sources.mco1_input.Statement.{statement}
 use Rattle.core_clocks.proofs.sources.mco1_input.Tie as tie
 
 returns : tie.Need-returns
@@ -24,7 +23,7 @@ returns-5 : tie.Need-returns-5
 unfolding mco1Input
 returns-5 c = rw (c .enum-told5 .given .1)
 
-pub mco1-input-spec : {M : Type 1} → statement M
+pub mco1-input-spec : {M : Type 1} → Rattle.core_clocks.proofs.sources.mco1_input.Statement.statement M
 mco1-input-spec =
     tie.close (tie.spec (λ c. search needs) returns (λ c. search needs) returns-2 (λ c. search needs) (λ c κs. search needs) returns-3
     (λ c. search needs) (λ c κs. search needs) returns-4 (λ c. search needs) returns-5)

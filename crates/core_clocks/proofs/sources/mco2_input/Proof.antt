@@ -1,7 +1,6 @@
 -- `core_clocks::sources::mco2_input` meets its contract.
 use Rattle.rules.specs.Document01.Mco.{mco2Input}
 use borrow.Author.Needs.{needs}
-use Rattle.core_clocks.proofs.sources.mco2_input.Statement.{statement}
 use Rattle.core_clocks.proofs.sources.mco2_input.Tie as tie
 
 returns : tie.Need-returns
@@ -28,7 +27,7 @@ returns-6 : tie.Need-returns-6
 unfolding mco2Input
 returns-6 c = rw (c .enum-told6 .given .1)
 
-pub mco2-input-spec : {M : Type 1} → statement M
+pub mco2-input-spec : {M : Type 1} → Rattle.core_clocks.proofs.sources.mco2_input.Statement.statement M
 mco2-input-spec =
     tie.close (tie.spec (λ c. search needs) returns (λ c. search needs) (λ c κs. search needs) returns-2 (λ c. search needs)
     (λ c κs. search needs) returns-3 (λ c. search needs) (λ c κs. search needs) returns-4 (λ c. search needs) returns-5 (λ c. search needs)

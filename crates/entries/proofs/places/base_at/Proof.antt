@@ -3,7 +3,6 @@ use borrow.Author.Needs.{needs}
 use native.Mathlib.Omega.{arith}
 use Rattle.entries.specs.Place.{baseOf}
 use Rattle.entries.proofs.Placed.{past}
-use Rattle.entries.proofs.places.base_at.Statement.{statement}
 use Rattle.entries.proofs.places.base_at.Tie as tie
 
 returns : tie.Need-returns
@@ -21,7 +20,7 @@ returns-4 c = rw (c .before .match .keys4, c .less-one .ensures)
 returns-5 : tie.Need-returns-5
 returns-5 c = past (baseOf (c .before .args .j) (c .before .args .vcosel) (c .before .args .rge) (c .before .args .m) (c .before .args .n)) (c .before .args .k) (omega (arith, c .match .rest))
 
-pub base-at-spec : {M : Type 1} → statement M
+pub base-at-spec : {M : Type 1} → Rattle.entries.proofs.places.base_at.Statement.statement M
 base-at-spec =
     tie.close (tie.spec (λ c. search needs) (λ c. search needs) (λ c. search needs) (λ c. search needs) (λ c. search needs)
     (λ c κs. search needs) returns returns-2 returns-3 returns-4 returns-5)

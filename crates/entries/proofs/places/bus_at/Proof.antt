@@ -2,7 +2,6 @@
 use native.Mathlib.Omega.{arith}
 use Rattle.rules.specs.Document01.Entries.{busEntries}
 use Rattle.entries.proofs.Placed.{ended, above}
-use Rattle.entries.proofs.places.bus_at.Statement.{statement}
 use Rattle.entries.proofs.places.bus_at.Tie as tie
 
 returns : tie.Need-returns
@@ -49,6 +48,6 @@ returns-11 : tie.Need-returns-11
 unfolding busEntries
 returns-11 c = ended (busEntries (c .before .args .b) (c .before .args .s)) (c .before .args .k) (above 9 (c .before .args .k) (above 8 (c .before .args .k) (above 7 (c .before .args .k) (above 6 (c .before .args .k) (above 5 (c .before .args .k) (above 4 (c .before .args .k) (above 3 (c .before .args .k) (above 2 (c .before .args .k) (above 1 (c .before .args .k) (above 0 (c .before .args .k) (omega arith) (c .match .rest .0 .0 .0 .0 .0 .0 .0 .0 .0 .1)) (c .match .rest .0 .0 .0 .0 .0 .0 .0 .0 .1)) (c .match .rest .0 .0 .0 .0 .0 .0 .0 .1)) (c .match .rest .0 .0 .0 .0 .0 .0 .1)) (c .match .rest .0 .0 .0 .0 .0 .1)) (c .match .rest .0 .0 .0 .0 .1)) (c .match .rest .0 .0 .0 .1)) (c .match .rest .0 .0 .1)) (c .match .rest .0 .1)) (c .match .rest .1))
 
-pub bus-at-spec : {M : Type 1} → statement M
+pub bus-at-spec : {M : Type 1} → Rattle.entries.proofs.places.bus_at.Statement.statement M
 bus-at-spec =
     tie.close (tie.spec returns returns-2 returns-3 returns-4 returns-5 returns-6 returns-7 returns-8 returns-9 returns-10 returns-11)

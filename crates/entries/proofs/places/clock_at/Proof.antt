@@ -3,7 +3,6 @@ use native.Mathlib.Omega.{arith}
 use borrow.Author.Needs.{needs}
 use Rattle.rules.specs.Document01.Entries.{clockEntries}
 use Rattle.entries.proofs.Placed.{past, above}
-use Rattle.entries.proofs.places.clock_at.Statement.{statement}
 use Rattle.entries.proofs.places.clock_at.Tie as tie
 
 returns : tie.Need-returns
@@ -46,7 +45,7 @@ returns-10 : tie.Need-returns-10
 unfolding clockEntries
 returns-10 c = past (clockEntries (c .before .args .w) (c .before .args .s) (c .before .args .m)) (c .before .args .k) (above 8 (c .before .args .k) (above 7 (c .before .args .k) (above 6 (c .before .args .k) (above 5 (c .before .args .k) (above 4 (c .before .args .k) (above 3 (c .before .args .k) (above 2 (c .before .args .k) (above 1 (c .before .args .k) (above 0 (c .before .args .k) (omega arith) (c .match .rest .0 .0 .0 .0 .0 .0 .0 .0 .1)) (c .match .rest .0 .0 .0 .0 .0 .0 .0 .1)) (c .match .rest .0 .0 .0 .0 .0 .0 .1)) (c .match .rest .0 .0 .0 .0 .0 .1)) (c .match .rest .0 .0 .0 .0 .1)) (c .match .rest .0 .0 .0 .1)) (c .match .rest .0 .0 .1)) (c .match .rest .0 .1)) (c .match .rest .1))
 
-pub clock-at-spec : {M : Type 1} → statement M
+pub clock-at-spec : {M : Type 1} → Rattle.entries.proofs.places.clock_at.Statement.statement M
 clock-at-spec =
     tie.close (tie.spec (λ c κs. search needs) returns returns-2 returns-3 returns-4 returns-5 returns-6 returns-7 returns-8 returns-9
     returns-10)

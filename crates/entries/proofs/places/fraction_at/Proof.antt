@@ -4,7 +4,6 @@ use borrow.Author.Needs.{needs}
 use Rattle.types.specs.declared.Fraction.the-variants.{Part}
 use Rattle.rules.specs.Document01.Entries.{fractionEntries}
 use Rattle.entries.proofs.Placed.{past}
-use Rattle.entries.proofs.places.fraction_at.Statement.{statement}
 use Rattle.entries.proofs.places.fraction_at.Tie as tie
 
 returns-2 : tie.Need-returns-2
@@ -19,7 +18,7 @@ returns-4 c = rw (c .before .before .f .given .1, c .match2 .keys3)
 returns-5 : tie.Need-returns-5
 returns-5 c = rw (c .before .before .f .given .1) (past (fractionEntries (c .before .before .before .before .args .j) (Part (c .before .before .f .given .0 .0))) (c .before .before .before .before .args .k) (omega (arith, c .match2 .rest)))
 
-pub fraction-at-spec : {M : Type 1} → statement M
+pub fraction-at-spec : {M : Type 1} → Rattle.entries.proofs.places.fraction_at.Statement.statement M
 fraction-at-spec =
     tie.close (tie.spec (λ c. search needs) (λ c. search needs) (λ c. search needs) (λ c. search needs) (λ c. search needs)
     (λ c. search needs) (λ c. search needs) (λ c. search needs) (λ c. search needs) returns-2 returns-3 returns-4 returns-5)

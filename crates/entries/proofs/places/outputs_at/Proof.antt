@@ -8,7 +8,6 @@ use Rattle.rules.specs.Document01.Fields.{ofPll}
 use Rattle.rules.specs.Document01.Entries.{outputEntries}
 use Rattle.entries.proofs.Counted.{output-length}
 use Rattle.entries.proofs.Placed.{first, later}
-use Rattle.entries.proofs.places.outputs_at.Statement.{statement}
 use Rattle.entries.proofs.places.outputs_at.Tie as tie
 
 returns : tie.Need-returns
@@ -50,7 +49,7 @@ returns-3 c =
     (later (outputEntries (ofPll j Fields.Q) (ofPll j Fields.QEN) q) (outputEntries (ofPll j Fields.R) (ofPll j Fields.REN) r) (b .result) l (b .ensures .0 ∙ output-length _ _ q) (c .before .if2 .left)
     (c .output-at3 .ensures))
 
-pub outputs-at-spec : {M : Type 1} → statement M
+pub outputs-at-spec : {M : Type 1} → Rattle.entries.proofs.places.outputs_at.Statement.statement M
 outputs-at-spec =
     tie.close (tie.spec (λ c. search needs) (λ c κs. search needs) (λ c. search needs) (λ c. search needs) (λ c κs. search needs) returns
     (λ c κs. search needs) (λ c. search needs) (λ c. search needs) (λ c κs. search needs) returns-2 (λ c. search needs) (λ c. search needs)

@@ -7,7 +7,6 @@ use Rattle.entries.specs.Place.{outputsOf}
 use Rattle.entries.proofs.Counted.{fraction-length}
 use Rattle.fields.proofs.Tails.{fromFraction}
 use Rattle.entries.proofs.Placed.{first, later}
-use Rattle.entries.proofs.places.setting_at.Statement.{statement}
 use Rattle.entries.proofs.places.setting_at.Tie as tie
 
 returns : tie.Need-returns
@@ -41,7 +40,7 @@ returns-3 c =
     (later (fractionEntries j (s .fraction)) (outputsOf j (s .p) (s .q) (s .r)) (b .result) (k - 4) (b .ensures .0 ∙ fraction-length j (s .fraction)) (c .before .if2 .left)
     (c .outputs-at .ensures))
 
-pub setting-at-spec : {M : Type 1} → statement M
+pub setting-at-spec : {M : Type 1} → Rattle.entries.proofs.places.setting_at.Statement.statement M
 setting-at-spec =
     tie.close (tie.spec (λ c κs. search needs) returns (λ c κs. search needs) (λ c κs. search needs) returns-2 (λ c κs. search needs)
     returns-3)

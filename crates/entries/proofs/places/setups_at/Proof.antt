@@ -7,7 +7,6 @@ use Rattle.rules.specs.Document01.Entries.{setupEntries}
 use Rattle.rules.specs.Document01.OnePll.{pllFrom}
 use Rattle.entries.proofs.Counted.{setup-length}
 use Rattle.entries.proofs.Placed.{first, later}
-use Rattle.entries.proofs.places.setups_at.Statement.{statement}
 use Rattle.entries.proofs.places.setups_at.Tie as tie
 
 returns : tie.Need-returns
@@ -40,7 +39,7 @@ returns-3 c =
     (later (setupEntries 1 (pllFrom x 1)) (setupEntries 2 (pllFrom x 2)) (b .result) l (b .ensures .0 ∙ setup-length 1 (pllFrom x 1)) (c .before .before .if2 .left)
     (rw (← c .before .pll3 .ensures) (c .setup-at3 .ensures)))
 
-pub setups-at-spec : {M : Type 1} → statement M
+pub setups-at-spec : {M : Type 1} → Rattle.entries.proofs.places.setups_at.Statement.statement M
 setups-at-spec =
     tie.close (tie.spec (λ c κs. search needs) (λ c κs. search needs) (λ c κs. search needs) returns (λ c κs. search needs)
     (λ c κs. search needs) (λ c κs. search needs) returns-2 (λ c κs. search needs) (λ c κs. search needs) returns-3)

@@ -8,7 +8,6 @@ use Rattle.rules.specs.Document01.Entries.{startEntries}
 use Rattle.rules.specs.Document01.OnePll.{pllFrom}
 use Rattle.entries.proofs.Counted.{start-length}
 use Rattle.entries.proofs.Placed.{first, later, with-start}
-use Rattle.entries.proofs.places.starts_at.Statement.{statement}
 use Rattle.entries.proofs.places.starts_at.Tie as tie
 
 returns : tie.Need-returns
@@ -41,7 +40,7 @@ returns-3 c =
     (later (startEntries 1 (pllFrom x 1)) (startEntries 2 (pllFrom x 2)) (b .result) l (b .ensures .0 ∙ start-length 1 (pllFrom x 1)) (c .before .if2 .left)
     (with-start 2 (pllFrom x 2) (l - b .result) (omega (arith, a .ensures .0, b .ensures .0, c .before .before .before .before .before .pre, c .before .before .before .if1 .left, c .before .if2 .left)) (c .start-at3 .ensures)))
 
-pub starts-at-spec : {M : Type 1} → statement M
+pub starts-at-spec : {M : Type 1} → Rattle.entries.proofs.places.starts_at.Statement.statement M
 starts-at-spec =
     tie.close (tie.spec (λ c κs. search needs) (λ c κs. search needs) returns (λ c κs. search needs) (λ c κs. search needs) returns-2
     (λ c κs. search needs) returns-3)

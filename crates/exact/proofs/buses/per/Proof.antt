@@ -4,7 +4,6 @@ use Rattle.rules.specs.Manual.Tree.{csiOf, perOf}
 use Rattle.rules.specs.Manual.Tree.{fedBy}
 use Rattle.exact.proofs.Chains.{past, none-below}
 use borrow.Author.Needs.{needs}
-use Rattle.exact.proofs.buses.per.Statement.{statement}
 use Rattle.exact.proofs.buses.per.Tie as tie
 
 returns : tie.Need-returns
@@ -25,7 +24,7 @@ returns-4 c =
     let w = c .before .word in
     rw (← w .ensures) (past (_ ∷ _ ∷ _ ∷ []) (w .result) (none-below 3 (w .result) (c .match .rest)))
 
-pub per-spec : {M : Type 1} → statement M
+pub per-spec : {M : Type 1} → Rattle.exact.proofs.buses.per.Statement.statement M
 per-spec =
     tie.close (tie.spec (λ c κs. search needs) (λ c κs. search needs) (λ c κs. search needs) (λ c κs. search needs) returns returns-2
     returns-3 returns-4)

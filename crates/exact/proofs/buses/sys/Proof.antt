@@ -6,7 +6,6 @@ use Rattle.rules.specs.Manual.Tree.{P, csiOf, sysOf}
 use Rattle.rules.specs.Manual.Tree.{fedBy}
 use Rattle.exact.proofs.Chains.{past, none-below}
 use borrow.Author.Needs.{needs}
-use Rattle.exact.proofs.buses.sys.Statement.{statement}
 use Rattle.exact.proofs.buses.sys.Tie as tie
 
 returns : tie.Need-returns
@@ -31,7 +30,7 @@ returns-5 c =
     let w = c .before .word in
     rw (← w .ensures) (past (_ ∷ _ ∷ _ ∷ _ ∷ []) (w .result) (none-below 4 (w .result) (c .match .rest)))
 
-pub sys-spec : {M : Type 1} → statement M
+pub sys-spec : {M : Type 1} → Rattle.exact.proofs.buses.sys.Statement.statement M
 sys-spec =
     tie.close (tie.spec (λ c κs. search needs) (λ c κs. search needs) (λ c κs. search needs) (λ c κs. search needs) (λ c κs. search needs)
     returns returns-2 returns-3 returns-4 returns-5)

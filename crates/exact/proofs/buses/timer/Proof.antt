@@ -4,7 +4,6 @@ use denote.Ref.{now}
 use Rattle.rules.specs.Manual.Tree.{ahbOf}
 use Rattle.rules.specs.Manual.Tree.{fedBy}
 use borrow.Author.Needs.{needs}
-use Rattle.exact.proofs.buses.timer.Statement.{statement}
 use Rattle.exact.proofs.buses.timer.Tie as tie
 
 returns : tie.Need-returns
@@ -14,7 +13,7 @@ returns c =
     rw (← c .before .before .before .before .word .ensures, ← c .before .before .before .word2 .ensures)
     (c .over .ensures ahb (c .before .before .ahb .ensures) ∙ c .before .timer-divisor .ensures ahb)
 
-pub timer-spec : {M : Type 1} → statement M
+pub timer-spec : {M : Type 1} → Rattle.exact.proofs.buses.timer.Statement.statement M
 timer-spec =
     tie.close (tie.spec (λ c κs. search needs) (λ c κs. search needs) (λ c κs. search needs) (λ c κs. search needs) (λ c. search needs)
     (λ c κs. search needs) returns)

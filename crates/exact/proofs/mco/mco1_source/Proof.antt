@@ -7,7 +7,6 @@ use Rattle.rules.specs.Manual.Tree.{none, Q, fromOscillator, hsiOf, hsi48Of, hs
 use Rattle.rules.specs.Manual.Tree.{fedBy}
 use Rattle.exact.proofs.Chains.{over-past, none-below}
 use borrow.Author.Needs.{needs}
-use Rattle.exact.proofs.mco.mco1_source.Statement.{statement}
 use Rattle.exact.proofs.mco.mco1_source.Tie as tie
 
 returns : tie.Need-returns
@@ -44,7 +43,7 @@ returns-6 c =
     let w = c .before .word in
     (none, refl, rw (← w .ensures) (over-past (_ ∷ _ ∷ _ ∷ _ ∷ _ ∷ []) (w .result) _ (none-below 5 (w .result) (c .match .rest))))
 
-pub mco1-source-spec : {M : Type 1} → statement M
+pub mco1-source-spec : {M : Type 1} → Rattle.exact.proofs.mco.mco1_source.Statement.statement M
 mco1-source-spec =
     tie.close (tie.spec (λ c κs. search needs) (λ c κs. search needs) (λ c κs. search needs) (λ c κs. search needs) (λ c κs. search needs)
     returns returns-2 returns-3 returns-4 returns-5 returns-6)

@@ -7,7 +7,6 @@ use Rattle.rules.specs.Manual.Tree.{none, P, fromOscillator, csiOf, lsiOf, hseO
 use Rattle.rules.specs.Manual.Tree.{fedBy}
 use Rattle.exact.proofs.Chains.{over-past, none-below}
 use borrow.Author.Needs.{needs}
-use Rattle.exact.proofs.mco.mco2_source.Statement.{statement}
 use Rattle.exact.proofs.mco.mco2_source.Tie as tie
 
 returns : tie.Need-returns
@@ -52,7 +51,7 @@ returns-7 c =
     let w = c .before .word in
     (none, refl, rw (← w .ensures) (over-past (_ ∷ _ ∷ _ ∷ _ ∷ _ ∷ _ ∷ []) (w .result) _ (none-below 6 (w .result) (c .match .rest))))
 
-pub mco2-source-spec : {M : Type 1} → statement M
+pub mco2-source-spec : {M : Type 1} → Rattle.exact.proofs.mco.mco2_source.Statement.statement M
 mco2-source-spec =
     tie.close (tie.spec (λ c κs. search needs) (λ c κs. search needs) (λ c κs. search needs) (λ c κs. search needs) (λ c κs. search needs)
     (λ c κs. search needs) (λ c κs. search needs) returns returns-2 returns-3 returns-4 returns-5 returns-6 returns-7)

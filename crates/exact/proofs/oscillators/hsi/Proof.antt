@@ -3,7 +3,6 @@ use denote.Ref.{now}
 use Rattle.rules.specs.Manual.Tree.{word, hsiOf}
 use Rattle.exact.proofs.Chains.{hsi-off, never-runs}
 use borrow.Author.Needs.{needs}
-use Rattle.exact.proofs.oscillators.hsi.Statement.{statement}
 use Rattle.exact.proofs.oscillators.hsi.Tie as tie
 
 returns : tie.Need-returns
@@ -28,7 +27,7 @@ returns-5 c fed =
     let w = c .before .word in
     rw (← w .ensures, hsi-off (w .result) (c .match .rest)) (never-runs (word (now (c .before .before .before .args .bank)) 76))
 
-pub hsi-spec : {M : Type 1} → statement M
+pub hsi-spec : {M : Type 1} → Rattle.exact.proofs.oscillators.hsi.Statement.statement M
 hsi-spec =
     tie.close (tie.spec (λ c κs. search needs) (λ c κs. search needs) (λ c κs. search needs) (λ c κs. search needs) (λ c κs. search needs)
     returns returns-2 returns-3 returns-4 returns-5)

@@ -7,7 +7,6 @@ use Rattle.rules.specs.Manual.Tree.{Output, P, Q, R, divider, enable, vcoOf, ou
 use Rattle.rules.specs.Manual.Tree.{fedBy}
 use Rattle.exact.proofs.Chains.{gated-on}
 use borrow.Author.Needs.{needs}
-use Rattle.exact.proofs.pll.output.Statement.{statement}
 use Rattle.exact.proofs.pll.output.Tie as tie
 
 -- an enable stands after its divider
@@ -44,7 +43,7 @@ returns-3 c j o e d =
     )
     (c .over .ensures (vcoOf (now (a .bank)) (fedBy (a .fed)) j) (c .before .vco .ensures j e))
 
-pub output-spec : {M : Type 1} → statement M
+pub output-spec : {M : Type 1} → Rattle.exact.proofs.pll.output.Statement.statement M
 output-spec =
     tie.close (tie.spec (λ c κs. search needs) returns (λ c. search needs) (λ c κs. search needs) returns-2 (λ c κs. search needs)
     (λ c κs. search needs) (λ c. search needs) (λ c. search needs) (λ c κs. search needs) returns-3)

@@ -4,7 +4,6 @@ use Rattle.rules.specs.Manual.Tree.{csiOf, sourceOf}
 use Rattle.rules.specs.Manual.Tree.{fedBy}
 use Rattle.exact.proofs.Chains.{past-source, none-below}
 use borrow.Author.Needs.{needs}
-use Rattle.exact.proofs.pll.source.Statement.{statement}
 use Rattle.exact.proofs.pll.source.Tie as tie
 
 returns : tie.Need-returns
@@ -29,7 +28,7 @@ returns-5 c j e =
     let w = c .before .pll-word in
     rw (← w .ensures j e) (past-source (_ ∷ _ ∷ _ ∷ _ ∷ []) (w .result) (none-below 4 (w .result) (c .match .rest)))
 
-pub source-spec : {M : Type 1} → statement M
+pub source-spec : {M : Type 1} → Rattle.exact.proofs.pll.source.Statement.statement M
 source-spec =
     tie.close (tie.spec (λ c κs. search needs) (λ c κs. search needs) (λ c κs. search needs) (λ c κs. search needs) returns returns-2
     returns-3 returns-4 returns-5)

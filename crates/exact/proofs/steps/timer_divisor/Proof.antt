@@ -1,7 +1,6 @@
 -- `exact::steps::timer_divisor` meets its contract.
 use native.Mathlib.Omega.{arith}
 use Rattle.exact.proofs.Chains.{one, timpre-on, timer-none}
-use Rattle.exact.proofs.steps.timer_divisor.Statement.{statement}
 use Rattle.exact.proofs.steps.timer_divisor.Tie as tie
 
 returns : tie.Need-returns
@@ -40,7 +39,7 @@ returns-11 c x = let a = c .before .before .args in rw (timpre-on x (a .timpre) 
 returns-12 : tie.Need-returns-12
 returns-12 c x = let a = c .before .before .args in timer-none x (a .timpre) (a .ppre) (c .match2 .rest)
 
-pub timer-divisor-spec : {M : Type 1} → statement M
+pub timer-divisor-spec : {M : Type 1} → Rattle.exact.proofs.steps.timer_divisor.Statement.statement M
 timer-divisor-spec =
     tie.close (tie.spec returns returns-2 returns-3 returns-4 returns-5 returns-6 returns-7 returns-8 returns-9 returns-10 returns-11
     returns-12)

@@ -5,7 +5,6 @@ use native.Mathlib.Omega.{arith}
 use Rattle.exact.specs.Exact.{cap}
 use Rattle.exact.proofs.Cap.{cap-fits, cap-full, fits, passes}
 use borrow.Author.Needs.{needs}
-use Rattle.exact.proofs.steps.times.Statement.{statement}
 use Rattle.exact.proofs.steps.times.Tie as tie
 
 returns : tie.Need-returns
@@ -25,5 +24,5 @@ returns-3 c =
     let a = c .before .before .args in
     cap-full (a .a * a .b) (passes (a .a) (a .b) (omega arith) (c .if2 .left))
 
-pub times-spec : {M : Type 1} → statement M
+pub times-spec : {M : Type 1} → Rattle.exact.proofs.steps.times.Statement.statement M
 times-spec = tie.close (tie.spec returns (λ c. search needs) mul-result returns-2 returns-3)

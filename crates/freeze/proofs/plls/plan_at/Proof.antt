@@ -4,7 +4,6 @@ use lib.Dec.{ltb}
 use borrow.Author.Tests.{not-true, not-false}
 use Rattle.freeze.proofs.Steps.{present}
 use borrow.Author.Needs.{needs}
-use Rattle.freeze.proofs.plls.plan_at.Statement.{statement}
 use Rattle.freeze.proofs.plls.plan_at.Tie as tie
 
 returns : tie.Need-returns
@@ -17,5 +16,5 @@ returns-2 c =
     let a = c .before .before .before .before in
     rw (← present (a .args .c) (a .args .k) (a .pre), not-false (ltb (a .args .k) 2 || a .args .c .three) (c .before .before .if1 .left)) (c .plan-pll .ensures)
 
-pub plan-at-spec : {M : Type 1} → statement M
+pub plan-at-spec : {M : Type 1} → Rattle.freeze.proofs.plls.plan_at.Statement.statement M
 plan-at-spec = tie.close (tie.spec returns (λ c. search needs) (λ c κs. search needs) returns-2)

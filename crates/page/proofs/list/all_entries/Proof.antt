@@ -5,7 +5,6 @@ use lib.ListN.{length}
 use Rattle.rules.specs.Document01.Entries.{entriesOf}
 use Rattle.rules.proofs.Document01.Length.{at-most}
 use borrow.Author.Needs.{needs}
-use Rattle.page.proofs.list.all_entries.Statement.{statement}
 use Rattle.page.proofs.list.all_entries.Tie as tie
 
 abbrev Inv-loop : tie.InvT-loop
@@ -17,7 +16,7 @@ abbrev μ-loop : tie.MeasureT-loop
 cast-entry : tie.Need-cast-entry Inv-loop μ-loop
 cast-entry c = let m = at-most (c .before .before .before .args .x) in search needs
 
-pub all-entries-spec : {M : Type 1} → statement M
+pub all-entries-spec : {M : Type 1} → Rattle.page.proofs.list.all_entries.Statement.statement M
 all-entries-spec =
     tie.close (tie.spec Inv-loop μ-loop (λ c κs. search needs) (λ c. search needs) cast-entry (λ c κs. search needs) (λ c κs. search needs)
     (λ c. search needs) (λ c. search needs) (λ c. search needs) (λ c. search needs))

@@ -11,7 +11,6 @@ use Prim.Native.Nat.{ℕ, _+_, _-_, _/_, _≤_, _<_}
 use mathlib.Core.Logic.{⊎-elim}
 use mathlib.Core.Bool.{Bool, true}
 use mathlib.Core.Path.{_≡_, sym, _∙_}
-use Rattle.pll.proofs.choice.search_m.Statement.{statement}
 use Rattle.pll.proofs.choice.search_m.Tie as tie
 
 abbrev Inv-loop : tie.InvT-loop
@@ -123,7 +122,7 @@ returns-2 c =
     let m = i .1 in
     sym (best-same _ _ _ _ (b .loop .m - 1) 63 (omega arith) (λ k g t. after-last _ _ _ (low-pos (a .medium)) k (omega arith)) ∙ i .2)
 
-pub search-m-spec : {M : Type 1} → statement M
+pub search-m-spec : {M : Type 1} → Rattle.pll.proofs.choice.search_m.Statement.statement M
 search-m-spec =
     tie.close (tie.spec Inv-loop μ-loop (λ c κs. search needs) (λ c κs. search needs) returns shortfall-requires add-m loop-holds
     shortfall-requires-2 add-m-2 loop-less loop-again returns-2)

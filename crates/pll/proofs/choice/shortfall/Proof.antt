@@ -4,7 +4,6 @@ use native.Mathlib.Nat.{mul-div-le}
 use native.Mathlib.Omega.{arith}
 use Prim.Native.Nat.{_/_}
 use borrow.Author.Needs.{needs}
-use Rattle.pll.proofs.choice.shortfall.Statement.{statement}
 use Rattle.pll.proofs.choice.shortfall.Tie as tie
 
 div-n : tie.Need-div-n
@@ -23,5 +22,5 @@ returns : tie.Need-returns
 unfolding shortfallOf
 returns c = back-sub _ _ (mul-div-le (c .args .target) (c .args .source / c .args .m)) (c .pre .2)
 
-pub shortfall-spec : {M : Type 1} → statement M
+pub shortfall-spec : {M : Type 1} → Rattle.pll.proofs.choice.shortfall.Statement.statement M
 shortfall-spec = tie.close (tie.spec (λ c. search needs) div-n (λ c. search needs) mul-result cast-result-2 sub-result returns)

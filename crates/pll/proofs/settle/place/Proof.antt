@@ -3,7 +3,6 @@ use Rattle.pll.proofs.Settled.{above-128, odd-one, allowed}
 use mathlib.Core.Logic.{inl, inr, ⊎-elim}
 use borrow.Author.Tests.{not-true, not-false}
 use borrow.Author.Needs.{needs}
-use Rattle.pll.proofs.settle.place.Statement.{statement}
 use Rattle.pll.proofs.settle.place.Tie as tie
 
 returns : tie.Need-returns
@@ -18,7 +17,7 @@ returns-3 c = let j = c .before .before .before .before in
     rw (c .before .before .before .rge-of .ensures, c .before .before .output-of .ensures, c .before .output-of2 .ensures, c .output-of3 .ensures)
     (allowed _ _ _ _ _ (e .before .divider-p .ensures) (⊎-elim (λ w. inr (w .1 .left)) (λ w. inl (not-false _ (w .left))) (j .if2 .came)) (e .if1 .left))
 
-pub place-spec : {M : Type 1} → statement M
+pub place-spec : {M : Type 1} → Rattle.pll.proofs.settle.place.Statement.statement M
 place-spec =
     tie.close (tie.spec (λ c κs. search needs) returns returns-2 (λ c κs. search needs) (λ c κs. search needs) (λ c κs. search needs)
     (λ c κs. search needs) returns-3)

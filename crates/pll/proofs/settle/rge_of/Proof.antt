@@ -1,5 +1,4 @@
 use borrow.Author.Tests.{lt-ltb, le-ltb}
-use Rattle.pll.proofs.settle.rge_of.Statement.{statement}
 use Rattle.pll.proofs.settle.rge_of.Tie as tie
 
 returns : tie.Need-returns
@@ -14,5 +13,5 @@ returns-3 c = simp (le-ltb _ _ (c .before .before .if1 .left), le-ltb _ _ (c .be
 returns-4 : tie.Need-returns-4
 returns-4 c = simp (le-ltb _ _ (c .before .before .if1 .left), le-ltb _ _ (c .before .if2 .left), le-ltb _ _ (c .if3 .left))
 
-pub rge-of-spec : {M : Type 1} → statement M
+pub rge-of-spec : {M : Type 1} → Rattle.pll.proofs.settle.rge_of.Statement.statement M
 rge-of-spec = tie.close (tie.spec returns returns-2 returns-3 returns-4)

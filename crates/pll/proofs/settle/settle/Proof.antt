@@ -4,7 +4,6 @@ use native.Mathlib.Nat.{mul-div-le}
 use native.Mathlib.Omega.{arith}
 use mathlib.Core.Path.{refl, sym, _∙_}
 use borrow.Author.Needs.{needs}
-use Rattle.pll.proofs.settle.settle.Statement.{statement}
 use Rattle.pll.proofs.settle.settle.Tie as tie
 
 returns : tie.Need-returns
@@ -29,7 +28,7 @@ returns-4 c = let b = c .before .before in
     let e = k .before in
     c .place .ensures ∙ fracn-in _ _ _ _ _ _ _ refl (e .before .if1 .left) (e .if2 .left) _ _ (rw (← k .first-of .ensures) (sym (m .multiply .ensures) ∙ b .fraction .given .1))
 
-pub settle-spec : {M : Type 1} → statement M
+pub settle-spec : {M : Type 1} → Rattle.pll.proofs.settle.settle.Statement.statement M
 settle-spec =
     tie.close (tie.spec (λ c. search needs) returns returns-2 (λ c κs. search needs) (λ c. search needs) multiply-requires
     (λ c. search needs) returns-3 (λ c. search needs) (λ c κs. search needs) returns-4)

@@ -5,7 +5,6 @@ use native.Mathlib.Omega.{arith}
 use Prim.Native.Nat.{ℕ, _+_, _-_, _*_, _/_}
 use mathlib.Core.Path.{_≡_, sym, _∙_, ap}
 use borrow.Author.Needs.{needs}
-use Rattle.pll.proofs.vco.target_of.Statement.{statement}
 use Rattle.pll.proofs.vco.target_of.Tie as tie
 
 mul-top : tie.Need-mul-top
@@ -22,7 +21,7 @@ returns-2 : tie.Need-returns-2
 unfolding topOf
 returns-2 c = sym (target-whole _ _ _ (c .if1 .left))
 
-pub target-of-spec : {M : Type 1} → statement M
+pub target-of-spec : {M : Type 1} → Rattle.pll.proofs.vco.target_of.Statement.statement M
 target-of-spec =
     tie.close (tie.spec (λ c. search needs) mul-top (λ c. search needs) (λ c. search needs) add-result (λ c. search needs) returns
     returns-2)

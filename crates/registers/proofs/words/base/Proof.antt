@@ -1,7 +1,6 @@
 -- `registers::words::base` meets its contract.
 use borrow.Author.Needs.{needs}
 use Rattle.fields.proofs.Stores.{next, nextAs}
-use Rattle.registers.proofs.words.base.Statement.{statement}
 use Rattle.registers.proofs.words.base.Tie as tie
 
 returns : tie.Need-returns
@@ -12,7 +11,7 @@ returns c =
     (c .before .before .before .before .before .before .before .put3 .ensures))
     (c .before .before .put4 .ensures)
 
-pub base-spec : {M : Type 1} → statement M
+pub base-spec : {M : Type 1} → Rattle.registers.proofs.words.base.Statement.statement M
 base-spec =
     tie.close (tie.spec (λ c. search needs) (λ c. search needs) (λ c κs. search needs) (λ c. search needs) (λ c κs. search needs)
     (λ c. search needs) (λ c κs. search needs) (λ c κs. search needs) (λ c. search needs) (λ c κs. search needs) (λ c. search needs)

@@ -2,7 +2,6 @@
 use borrow.Author.Needs.{needs}
 use Rattle.fields.proofs.Stores.{next, next2}
 use Rattle.rules.specs.Document01.Entries.{busEntries}
-use Rattle.registers.proofs.words.buses.Statement.{statement}
 use Rattle.registers.proofs.words.buses.Tie as tie
 
 returns : tie.Need-returns
@@ -17,7 +16,7 @@ returns c =
     (c .before .before .before .before .before .before .put23 .ensures))
     (c .before .before .put24 .ensures)
 
-pub buses-spec : {M : Type 1} → statement M
+pub buses-spec : {M : Type 1} → Rattle.registers.proofs.words.buses.Statement.statement M
 buses-spec =
     tie.close (tie.spec (λ c κs. search needs) (λ c κs. search needs) (λ c κs. search needs) (λ c κs. search needs) (λ c κs. search needs)
     (λ c κs. search needs) (λ c κs. search needs) (λ c κs. search needs) (λ c. search needs) returns)

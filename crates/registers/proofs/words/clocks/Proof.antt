@@ -2,7 +2,6 @@
 use borrow.Author.Needs.{needs}
 use Rattle.fields.proofs.Stores.{next, nextAs, next2}
 use Rattle.rules.specs.Document01.Entries.{clockEntries}
-use Rattle.registers.proofs.words.clocks.Statement.{statement}
 use Rattle.registers.proofs.words.clocks.Tie as tie
 
 returns : tie.Need-returns
@@ -16,7 +15,7 @@ returns c =
     (c .before .before .before .before .before .before .put22 .ensures))
     (c .before .before .put23 .ensures)
 
-pub clocks-spec : {M : Type 1} → statement M
+pub clocks-spec : {M : Type 1} → Rattle.registers.proofs.words.clocks.Statement.statement M
 clocks-spec =
     tie.close (tie.spec (λ c κs. search needs) (λ c κs. search needs) (λ c κs. search needs) (λ c κs. search needs) (λ c κs. search needs)
     (λ c κs. search needs) (λ c κs. search needs) (λ c κs. search needs) (λ c. search needs) returns)

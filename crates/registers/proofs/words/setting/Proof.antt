@@ -4,7 +4,6 @@ use borrow.Author.Needs.{needs}
 use Rattle.fields.proofs.Join.{joined}
 use Rattle.fields.proofs.Tails.{ofP, ofQ, ofR, fromFraction}
 use Rattle.rules.specs.Document01.Entries.{baseEntries, fractionEntries, settingEntries}
-use Rattle.registers.proofs.words.setting.Statement.{statement}
 use Rattle.registers.proofs.words.setting.Tie as tie
 
 returns : tie.Need-returns
@@ -19,7 +18,7 @@ returns c =
     (joined (ofQ k s) (ofR k s) _ (c .before .before .before .before .before .before .output2 .ensures)
     (c .before .before .output3 .ensures))))
 
-pub setting-spec : {M : Type 1} → statement M
+pub setting-spec : {M : Type 1} → Rattle.registers.proofs.words.setting.Statement.statement M
 setting-spec =
     tie.close (tie.spec (λ c. search needs) (λ c κs. search needs) (λ c κs. search needs) (λ c. search needs) (λ c. search needs)
     (λ c κs. search needs) (λ c. search needs) (λ c. search needs) (λ c κs. search needs) (λ c. search needs) (λ c. search needs)

@@ -4,7 +4,6 @@ use borrow.Author.Needs.{needs}
 use Rattle.rules.specs.Document01.Entries.{startEntries}
 use Rattle.rules.specs.Document01.OnePll.{pllFrom}
 use Rattle.fields.proofs.Join.{joined}
-use Rattle.registers.proofs.words.start_all.Statement.{statement}
 use Rattle.registers.proofs.words.start_all.Tie as tie
 
 returns : tie.Need-returns
@@ -15,7 +14,7 @@ returns c =
     (joined (startEntries 1 (pllFrom x 1)) (startEntries 2 (pllFrom x 2)) _ (c .before .before .before .before .before .before .start2 .ensures)
     (c .before .before .start3 .ensures))
 
-pub start-all-spec : {M : Type 1} → statement M
+pub start-all-spec : {M : Type 1} → Rattle.registers.proofs.words.start_all.Statement.statement M
 start-all-spec =
     tie.close (tie.spec (λ c. search needs) (λ c. search needs) (λ c. search needs) (λ c κs. search needs) (λ c κs. search needs)
     (λ c κs. search needs) (λ c. search needs) returns)

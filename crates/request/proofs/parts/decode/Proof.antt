@@ -10,7 +10,6 @@ use Rattle.types.specs.declared.Mco1Source.{Mco1Source}
 use Rattle.types.specs.declared.Mco2Source.{Mco2Source}
 use Rattle.types.specs.declared.PllRequest.{PllRequest}
 use Rattle.request.specs.Parts.{hertzAt, flagAt, mco1At, mco2At, partAt, thirdAt, decoded}
-use Rattle.request.proofs.parts.decode.Statement.{statement}
 use Rattle.request.proofs.parts.decode.Tie as tie
 
 -- a place in the first 90 bytes
@@ -118,7 +117,7 @@ returns c =
     (c .before .part-at2 .ensures)
     (c .third-at .ensures)
 
-pub decode-spec : {M : Type 1} → statement M
+pub decode-spec : {M : Type 1} → Rattle.request.proofs.parts.decode.Statement.statement M
 decode-spec =
     tie.close (tie.spec hertz-at-requires hertz-at-requires-2 hertz-at-requires-3 hertz-at-requires-4 hertz-at-requires-5
     hertz-at-requires-6 hertz-at-requires-7 hertz-at-requires-8 hertz-at-requires-9 shared-slice-read-t13 mco1-at-requires

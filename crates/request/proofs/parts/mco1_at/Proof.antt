@@ -3,7 +3,6 @@ use native.Mathlib.Omega.{arith}
 use lib.ListN.{getD}
 use borrow.Author.Needs.{needs}
 use Rattle.request.proofs.Codes.{mco1-other}
-use Rattle.request.proofs.parts.mco1_at.Statement.{statement}
 use Rattle.request.proofs.parts.mco1_at.Tie as tie
 
 returns : tie.Need-returns
@@ -24,5 +23,5 @@ returns-5 c =
     let a = c .before .before .args in
     mco1-other (getD (a .b .now) (a .at) 0) (λ p. omega (arith, n .0 .0 .0 .1, n .0 .0 .1, n .0 .1, n .1))
 
-pub mco1-at-spec : {M : Type 1} → statement M
+pub mco1-at-spec : {M : Type 1} → Rattle.request.proofs.parts.mco1_at.Statement.statement M
 mco1-at-spec = tie.close (tie.spec (λ c. search needs) returns returns-2 returns-3 returns-4 returns-5)

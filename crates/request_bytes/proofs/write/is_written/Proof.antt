@@ -4,7 +4,6 @@ use borrow.Author.Tests.{eq-eqb, ne-eqb}
 use borrow.Author.Needs.{needs}
 use Rattle.rules.specs.Document01.Bytes.{sizeOf}
 use Rattle.request_bytes.specs.Writing.{isWritten}
-use Rattle.request_bytes.proofs.write.is_written.Statement.{statement}
 use Rattle.request_bytes.proofs.write.is_written.Tie as tie
 
 returns : tie.Need-returns
@@ -28,5 +27,5 @@ returns-3 c =
     let a = e .before .before .args in
     rw (eq-eqb (a .room) (sizeOf (a .three)) (e .if1 .left ∙ e .before .size-of .ensures), f .if2 .left) (c .is-no-part .ensures)
 
-pub is-written-spec : {M : Type 1} → statement M
+pub is-written-spec : {M : Type 1} → Rattle.request_bytes.proofs.write.is_written.Statement.statement M
 is-written-spec = tie.close (tie.spec (λ c κs. search needs) returns returns-2 (λ c. search needs) (λ c κs. search needs) returns-3)

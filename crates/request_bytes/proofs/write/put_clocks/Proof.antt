@@ -3,7 +3,6 @@ use native.Mathlib.Omega.{arith}
 use borrow.Author.Needs.{needs}
 use Rattle.request_bytes.specs.Writing.{clocksBytes}
 use Rattle.request_bytes.proofs.Writing.{then, three-length}
-use Rattle.request_bytes.proofs.write.put_clocks.Statement.{statement}
 use Rattle.request_bytes.proofs.write.put_clocks.Tie as tie
 
 returns : tie.Need-returns
@@ -16,5 +15,5 @@ returns c = let h3 = c .before .before in
     (then 30 (h2 .put-three2 .ensures) (h3 .put-three3 .ensures) (omega (arith, three-length (q .system) (q .peripheral) (q .ahb))))
     (omega (arith, three-length (q .hse) (q .lse) (q .audio)))
 
-pub put-clocks-spec : {M : Type 1} → statement M
+pub put-clocks-spec : {M : Type 1} → Rattle.request_bytes.proofs.write.put_clocks.Statement.statement M
 put-clocks-spec = tie.close (tie.spec (λ c κs. search needs) (λ c κs. search needs) (λ c κs. search needs) (λ c. search needs) returns)

@@ -7,7 +7,6 @@ use borrow.Author.Needs.{needs}
 use Rattle.rules.proofs.Document01.BytesWhole.{hertz-length}
 use Rattle.request_bytes.specs.Writing.{outputsBytes}
 use Rattle.request_bytes.proofs.Writing.{then, run}
-use Rattle.request_bytes.proofs.write.put_outputs.Statement.{statement}
 use Rattle.request_bytes.proofs.write.put_outputs.Tie as tie
 
 slice-write-out-2 : tie.Need-slice-write-out-2
@@ -53,7 +52,7 @@ returns c =
     (omega (arith, hertz-length (a .request .mco1))))
     (omega arith))
 
-pub put-outputs-spec : {M : Type 1} → statement M
+pub put-outputs-spec : {M : Type 1} → Rattle.request_bytes.proofs.write.put_outputs.Statement.statement M
 put-outputs-spec =
     tie.close (tie.spec (λ c κs. search needs) (λ c. search needs) (λ c κs. search needs) slice-write-out-2 put-hertz-requires
     (λ c κs. search needs) slice-write-out-3 put-hertz-requires-2 same-length returns)

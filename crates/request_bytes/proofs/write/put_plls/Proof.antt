@@ -5,7 +5,6 @@ use Rattle.rules.specs.Document01.Request.{pllAt}
 use Rattle.rules.proofs.Document01.BytesWhole.{pll-length}
 use Rattle.request_bytes.specs.Writing.{pllsBytes}
 use Rattle.request_bytes.proofs.Writing.{then, none}
-use Rattle.request_bytes.proofs.write.put_plls.Statement.{statement}
 use Rattle.request_bytes.proofs.write.put_plls.Tie as tie
 
 put-part-requires-3 : tie.Need-put-part-requires-3
@@ -40,7 +39,7 @@ returns-2 c =
     (then 90 (h2 .put-part2 .ensures) (none _ 90) (omega (arith, pll-length (pllAt q 1))))
     (omega (arith, pll-length (pllAt q 0))))
 
-pub put-plls-spec : {M : Type 1} → statement M
+pub put-plls-spec : {M : Type 1} → Rattle.request_bytes.proofs.write.put_plls.Statement.statement M
 put-plls-spec =
     tie.close (tie.spec (λ c. search needs) (λ c κs. search needs) (λ c. search needs) (λ c κs. search needs) (λ c. search needs)
     put-part-requires-3 (λ c. search needs) returns (λ c. search needs) returns-2)

@@ -5,7 +5,6 @@ use lib.ListN.{replicate}
 use borrow.Author.Needs.{needs}
 use Rattle.template.proofs.Written.{nothing, within, kept, one-more, all-more}
 use Rattle.template.specs.Write.{Wrote}
-use Rattle.template.proofs.write.blanks.Statement.{statement}
 use Rattle.template.proofs.write.blanks.Tie as tie
 
 abbrev Inv-loop : tie.InvT-loop
@@ -29,6 +28,6 @@ same-length c = kept (c .before .loop .inv .1)
 returns : tie.Need-returns Inv-loop μ-loop
 returns c = all-more _ _ _ (c .before .loop .inv .0) (c .loop-test .left) (c .before .loop .inv .1)
 
-pub blanks-spec : {M : Type 1} → statement M
+pub blanks-spec : {M : Type 1} → Rattle.template.proofs.write.blanks.Statement.statement M
 blanks-spec =
     tie.close (tie.spec Inv-loop μ-loop loop-holds push-requires (λ c. search needs) (λ c. search needs) loop-again same-length returns)

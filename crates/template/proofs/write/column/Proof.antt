@@ -3,7 +3,6 @@ use denote.Ref.{now}
 use borrow.Author.Needs.{needs}
 use Rattle.template.proofs.Names.{named, unnamed}
 use Rattle.template.proofs.Written.{nothing, told}
-use Rattle.template.proofs.write.column.Statement.{statement}
 use Rattle.template.proofs.write.column.Tie as tie
 
 returns : tie.Need-returns
@@ -12,7 +11,7 @@ returns c = let a = c .before .before .before .args in told (unnamed (now (a .na
 returns-2 : tie.Need-returns-2
 returns-2 c = let a = c .before .before .before .before .before .before .before .before .args in told (named (now (a .names)) (a .n) (c .before .before .before .before .before .if1 .left)) (c .before .before .copy .ensures)
 
-pub column-spec : {M : Type 1} → statement M
+pub column-spec : {M : Type 1} → Rattle.template.proofs.write.column.Statement.statement M
 column-spec =
     tie.close (tie.spec returns (λ c. search needs) (λ c. search needs) (λ c. search needs) (λ c. search needs) (λ c. search needs)
     (λ c κs. search needs) (λ c. search needs) returns-2)

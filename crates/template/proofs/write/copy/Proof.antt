@@ -5,7 +5,6 @@ use lib.ListN.{length, take}
 use borrow.Author.Needs.{needs}
 use Rattle.template.proofs.Written.{nothing, within, kept, next-of, all-of}
 use Rattle.template.specs.Write.{Wrote}
-use Rattle.template.proofs.write.copy.Statement.{statement}
 use Rattle.template.proofs.write.copy.Tie as tie
 
 abbrev Inv-loop : tie.InvT-loop
@@ -29,7 +28,7 @@ same-length c = kept (c .before .loop .inv .1)
 returns : tie.Need-returns Inv-loop μ-loop
 returns c = all-of _ _ (c .loop-test .left) (c .before .loop .inv .1)
 
-pub copy-spec : {M : Type 1} → statement M
+pub copy-spec : {M : Type 1} → Rattle.template.proofs.write.copy.Statement.statement M
 copy-spec =
     tie.close (tie.spec Inv-loop μ-loop loop-holds (λ c. search needs) push-requires (λ c. search needs) (λ c. search needs) loop-again
     same-length returns)

@@ -7,7 +7,6 @@ use borrow.Author.Needs.{needs}
 use Rattle.template.proofs.Digits.{digit-count, digit-part}
 use Rattle.template.proofs.Written.{told, padded, unpadded}
 use Rattle.template.specs.Write.{decimalOf}
-use Rattle.template.proofs.write.decimal.Statement.{statement}
 use Rattle.template.proofs.write.decimal.Tie as tie
 
 returns : tie.Need-returns
@@ -16,7 +15,7 @@ returns c = let d = c .before .before .before .before .before .before .before .b
 returns-2 : tie.Need-returns-2
 returns-2 c = let d = c .before .before .before .before .before .before .before .before .digits in let a = c .before .before .before .before .before .before .before .before .before .before .before .args in unpadded (a .width) (decimalOf (a .n)) (let e = digit-count (a .n) (d .result) _ (d .ensures) in omega (arith, c .before .before .before .before .before .before .if1 .left)) (told (digit-part (a .n) (d .result) _ (d .ensures)) (c .before .before .copy2 .ensures))
 
-pub decimal-spec : {M : Type 1} → statement M
+pub decimal-spec : {M : Type 1} → Rattle.template.proofs.write.decimal.Statement.statement M
 decimal-spec =
     tie.close (tie.spec (λ c. search needs) (λ c κs. search needs) (λ c. search needs) (λ c. search needs) (λ c κs. search needs)
     (λ c. search needs) (λ c. search needs) (λ c. search needs) (λ c κs. search needs) (λ c. search needs) returns (λ c. search needs)

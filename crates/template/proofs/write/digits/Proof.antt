@@ -4,7 +4,6 @@ use denote.Ref.{now}
 use native.Mathlib.Omega.{arith}
 use borrow.Author.Needs.{needs}
 use Rattle.template.proofs.Digits.{Row, begins, goes-on, ends, ends-first}
-use Rattle.template.proofs.write.digits.Statement.{statement}
 use Rattle.template.proofs.write.digits.Tie as tie
 
 abbrev Inv-loop : tie.InvT-loop
@@ -37,7 +36,7 @@ same-length-2 c = c .before .loop .inv .size ∙ sym (c .before .before .pre)
 returns-2 : tie.Need-returns-2 Inv-loop μ-loop
 returns-2 c = (c .before .loop .inv .below, c .before .loop .inv .size, ends (c .before .loop .inv) (c .loop-test .left))
 
-pub digits-spec : {M : Type 1} → statement M
+pub digits-spec : {M : Type 1} → Rattle.template.proofs.write.digits.Statement.statement M
 digits-spec =
     tie.close (tie.spec Inv-loop μ-loop (λ c. search needs) (λ c. search needs) slice-write-row loop-holds same-length returns
     (λ c. search needs) (λ c. search needs) (λ c. search needs) slice-write-row-2 (λ c. search needs) loop-again same-length-2 returns-2)

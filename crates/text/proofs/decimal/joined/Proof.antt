@@ -6,7 +6,6 @@ use native.Mathlib.Omega.{arith}
 use lib.Seq.{length-take-le}
 use borrow.Rule.Slice.PartAt.{part-to-end}
 use borrow.Author.Needs.{needs}
-use Rattle.text.proofs.decimal.joined.Statement.{statement}
 use Rattle.text.proofs.decimal.joined.Tie as tie
 
 slice-aggregate-read-some : tie.Need-slice-aggregate-read-some
@@ -15,7 +14,7 @@ slice-aggregate-read-some c = let h = c .before .before .pre in sym (length-take
 returns : tie.Need-returns
 returns c = let a = c .before .before .before .before .before .args in rw (c .before .before .read-some .ensures, part-to-end (now (a .s)) (a .point + 1)) at (c .and-then .ensures)
 
-pub joined-spec : {M : Type 1} → statement M
+pub joined-spec : {M : Type 1} → Rattle.text.proofs.decimal.joined.Statement.statement M
 joined-spec =
     tie.close (tie.spec (λ c. search needs) slice-aggregate-read-some (λ c κs. search needs) (λ c. search needs) (λ c. search needs)
     (λ c. search needs) (λ c κs. search needs) returns)

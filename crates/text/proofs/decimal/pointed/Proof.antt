@@ -4,7 +4,6 @@ use native.Mathlib.Omega.{arith}
 use Rattle.text.proofs.Parts.{within}
 use Rattle.text.proofs.Digits.{no-point, too-many, with-point}
 use borrow.Author.Needs.{needs}
-use Rattle.text.proofs.decimal.pointed.Statement.{statement}
 use Rattle.text.proofs.decimal.pointed.Tie as tie
 
 returns : tie.Need-returns
@@ -25,7 +24,7 @@ joined-requires c κs = let a = c .before .before .before .before .args in let p
 returns-3 : tie.Need-returns-3
 returns-3 c = let a = c .before .before .before .before .before .before .args in with-point (a .unit) (now (a .s)) _ (c .before .before .before .before .find .ensures) (c .before .before .before .if1 .left) (c .before .before .if2 .left) (c .before .joined .ensures) (c .times-ten2 .ensures)
 
-pub pointed-spec : {M : Type 1} → statement M
+pub pointed-spec : {M : Type 1} → Rattle.text.proofs.decimal.pointed.Statement.statement M
 pointed-spec =
     tie.close (tie.spec (λ c κs. search needs) (λ c κs. search needs) (λ c κs. search needs) returns add-places sub-places returns-2
     joined-requires (λ c κs. search needs) returns-3)

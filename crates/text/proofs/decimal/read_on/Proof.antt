@@ -3,7 +3,6 @@ use Prim.Native.Nat.{_-_}
 use lib.ListN.{length}
 use Rattle.text.proofs.Digits.{Read, begins, no-number, goes-on, ends}
 use borrow.Author.Needs.{needs}
-use Rattle.text.proofs.decimal.read_on.Statement.{statement}
 use Rattle.text.proofs.decimal.read_on.Tie as tie
 
 abbrev Inv-loop : tie.InvT-loop
@@ -24,7 +23,7 @@ loop-again c = let l = c .before .before .before .before .loop in goes-on _ _ (l
 returns-2 : tie.Need-returns-2 Inv-loop μ-loop
 returns-2 c = ends _ _ (c .before .loop .value) (c .before .loop .i) (c .before .loop .inv) (c .loop-test .left)
 
-pub read-on-spec : {M : Type 1} → statement M
+pub read-on-spec : {M : Type 1} → Rattle.text.proofs.decimal.read_on.Statement.statement M
 read-on-spec =
     tie.close (tie.spec Inv-loop μ-loop loop-holds (λ c. search needs) (λ c κs. search needs) returns (λ c. search needs)
     (λ c. search needs) (λ c. search needs) loop-again returns-2)

@@ -1,7 +1,6 @@
 -- `text::decimal::times_ten` meets its contract.
 use Rattle.text.proofs.Digits.{product-fits, times-fits, times-wrong}
 use borrow.Author.Needs.{needs}
-use Rattle.text.proofs.decimal.times_ten.Statement.{statement}
 use Rattle.text.proofs.decimal.times_ten.Tie as tie
 
 mul-product : tie.Need-mul-product
@@ -13,7 +12,7 @@ returns c = rw (c .before .before .before .n .given .1) (times-fits _ (c .before
 returns-3 : tie.Need-returns-3
 returns-3 c = rw (c .before .before .before .n .given .1) (times-wrong _ (c .before .before .before .before .before .args .k) _ (c .before .power-of-ten .ensures) (c .if1 .left))
 
-pub times-ten-spec : {M : Type 1} → statement M
+pub times-ten-spec : {M : Type 1} → Rattle.text.proofs.decimal.times_ten.Statement.statement M
 times-ten-spec =
     tie.close (tie.spec (λ c. search needs) (λ c. search needs) (λ c. search needs) (λ c κs. search needs) mul-product (λ c. search needs)
     returns (λ c. search needs) returns-3)

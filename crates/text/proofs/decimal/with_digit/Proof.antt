@@ -1,7 +1,6 @@
 -- `text::decimal::with_digit` meets its contract.
 use borrow.Author.Tests.{le-leb, lt-leb}
 use borrow.Author.Needs.{needs}
-use Rattle.text.proofs.decimal.with_digit.Statement.{statement}
 use Rattle.text.proofs.decimal.with_digit.Tie as tie
 
 returns : tie.Need-returns
@@ -13,5 +12,5 @@ returns-2 c = rw (lt-leb (c .before .before .args .b) 57 (c .if2 .taken), le-leb
 returns-3 : tie.Need-returns-3
 returns-3 c = rw (le-leb (c .before .before .args .b) 57 (c .if2 .left), le-leb 48 (c .before .before .args .b) (c .before .if1 .left))
 
-pub with-digit-spec : {M : Type 1} → statement M
+pub with-digit-spec : {M : Type 1} → Rattle.text.proofs.decimal.with_digit.Statement.statement M
 with-digit-spec = tie.close (tie.spec returns returns-2 (λ c. search needs) (λ c. search needs) (λ c. search needs) returns-3)

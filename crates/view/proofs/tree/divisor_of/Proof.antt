@@ -4,7 +4,6 @@ use Prim.Native.Nat.{ℕ, _+_}
 use borrow.Author.Tests.{eq-eqb, ne-eqb, le-leb, lt-leb}
 use Rattle.view.specs.View.{divisorOf}
 use borrow.Author.Needs.{needs}
-use Rattle.view.proofs.tree.divisor_of.Statement.{statement}
 use Rattle.view.proofs.tree.divisor_of.Tie as tie
 
 returns : tie.Need-returns
@@ -39,7 +38,7 @@ returns-8 : tie.Need-returns-8
 unfolding divisorOf
 returns-8 c = let k = c .before .before .before .before .before .before .before .before .args .k in rw (ne-eqb k 0 (c .before .before .before .before .before .before .if1 .left), lt-leb k 4 (c .before .before .before .before .before .if2 .left), lt-leb k 6 (c .before .before .before .before .if3 .left), lt-leb k 14 (c .before .before .before .if4 .left), ne-eqb k 15 (c .before .before .if5 .left), ne-eqb k 16 (c .before .if6 .left), lt-leb k 25 (c .if7 .left))
 
-pub divisor-of-spec : {M : Type 1} → statement M
+pub divisor-of-spec : {M : Type 1} → Rattle.view.proofs.tree.divisor_of.Statement.statement M
 divisor-of-spec =
     tie.close (tie.spec returns (λ c. search needs) (λ c. search needs) (λ c κs. search needs) (λ c. search needs) returns-2
     (λ c κs. search needs) (λ c. search needs) (λ c. search needs) (λ c κs. search needs) (λ c κs. search needs) returns-3 returns-4

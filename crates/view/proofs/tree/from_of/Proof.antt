@@ -3,7 +3,6 @@ use mathlib.Core.Path.{ap, _∙_}
 use borrow.Author.Needs.{needs}
 use borrow.Author.Tests.{eq-eqb, ne-eqb, le-leb, lt-leb}
 use Rattle.view.specs.View.{swClock, perClock, mco1Clock, mco2Clock, fromOf}
-use Rattle.view.proofs.tree.from_of.Statement.{statement}
 use Rattle.view.proofs.tree.from_of.Tie as tie
 
 returns : tie.Need-returns
@@ -42,7 +41,7 @@ returns-9 : tie.Need-returns-9
 unfolding fromOf
 returns-9 c = let k = c .before .before .before .before .before .before .before .before .before .args .k in rw (ne-eqb k 0 (c .before .before .before .before .before .before .before .if1 .left), ne-eqb k 1 (c .before .before .before .before .before .before .if2 .left), lt-leb k 6 (c .before .before .before .before .before .if3 .left), ne-eqb k 7 (c .before .before .before .before .if4 .left), lt-leb k 14 (c .before .before .before .if5 .left), ne-eqb k 15 (c .before .before .if6 .left), ne-eqb k 16 (c .before .if7 .left), lt-leb k 25 (c .if8 .left))
 
-pub from-of-spec : {M : Type 1} → statement M
+pub from-of-spec : {M : Type 1} → Rattle.view.proofs.tree.from_of.Statement.statement M
 from-of-spec =
     tie.close (tie.spec (λ c κs. search needs) (λ c κs. search needs) returns returns-2 returns-3 (λ c κs. search needs)
     (λ c κs. search needs) returns-4 returns-5 (λ c κs. search needs) (λ c κs. search needs) returns-6 (λ c κs. search needs)

@@ -1,7 +1,6 @@
 -- `view::tree::timer_divisor` meets its contract.
 use borrow.Author.Tests.{eq-eqb, ne-eqb}
 use Rattle.view.proofs.Codes.{no-divisor}
-use Rattle.view.proofs.tree.timer_divisor.Statement.{statement}
 use Rattle.view.proofs.tree.timer_divisor.Tie as tie
 
 returns : tie.Need-returns
@@ -40,7 +39,7 @@ returns-11 c = rw (ne-eqb (c .before .before .args .timpre) 0 (c .before .if1 .l
 returns-12 : tie.Need-returns-12
 returns-12 c = let a = c .before .before .args in no-divisor (a .timpre) (a .ppre) (c .match2 .rest)
 
-pub timer-divisor-spec : {M : Type 1} → statement M
+pub timer-divisor-spec : {M : Type 1} → Rattle.view.proofs.tree.timer_divisor.Statement.statement M
 timer-divisor-spec =
     tie.close (tie.spec returns returns-2 returns-3 returns-4 returns-5 returns-6 returns-7 returns-8 returns-9 returns-10 returns-11
     returns-12)

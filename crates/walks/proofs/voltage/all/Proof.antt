@@ -1,7 +1,6 @@
 -- `walks::voltage::all` ends: each turn comes nearer to its last.
 use Prim.Native.Nat.{_-_}
 use borrow.Author.Needs.{needs}
-use Rattle.walks.proofs.voltage.all.Statement.{statement}
 use Rattle.walks.proofs.voltage.all.Tie as tie
 
 abbrev Inv-loop : tie.InvT-loop
@@ -10,7 +9,7 @@ Inv-loop scales target₀ target = Unit {0}
 abbrev μ-loop : tie.MeasureT-loop
 μ-loop scales target₀ target = scales - target
 
-pub all-spec : {M : Type 1} → statement M
+pub all-spec : {M : Type 1} → Rattle.walks.proofs.voltage.all.Statement.statement M
 all-spec =
     tie.close (tie.spec Inv-loop μ-loop (λ c. search needs) (λ c κs. search needs) (λ c. search needs) (λ c. search needs)
     (λ c. search needs) (λ c. search needs))

@@ -1,11 +1,10 @@
--- `ask::hex::store` meets its contract.
+-- `ask::hex::store_hex` meets its contract.
 use denote.Ref.{now}
 use Prim.Native.Nat.{_-_}
 use native.Mathlib.Omega.{arith}
 use Rattle.ask.proofs.Pairs.{Stored, starts, same-length as same-length-of, both-digits, stores-on, stored}
 use borrow.Author.Needs.{needs}
-use Rattle.ask.proofs.hex.store.Statement.{statement}
-use Rattle.ask.proofs.hex.store.Tie as tie
+use Rattle.ask.proofs.hex.store_hex.Tie as tie
 
 abbrev Inv-loop : tie.InvT-loop
 Inv-loop sheet₀ at v n i₀ sheet i = Stored v sheet₀ at sheet i
@@ -31,7 +30,7 @@ same-length c = same-length-of _ _ _ _ _ (c .before .loop .inv)
 returns : tie.Need-returns Inv-loop μ-loop
 returns c = stored _ _ _ _ _ (c .before .loop .inv) (c .loop-test .left)
 
-pub store-spec : {M : Type 1} → statement M
-store-spec =
+pub store-hex-spec : {M : Type 1} → Rattle.ask.proofs.hex.store_hex.Statement.statement M
+store-hex-spec =
     tie.close (tie.spec Inv-loop μ-loop loop-holds (λ c. search needs) (λ c. search needs) (λ c. search needs) (λ c. search needs)
     (λ c. search needs) byte-of-requires add-put (λ c κs. tt) (λ c. search needs) (λ c. search needs) loop-again same-length returns)

@@ -1,4 +1,4 @@
--- `request_bytes::write::put_word` meets its contract.
+-- `request_bytes::write::put_u32le` meets its contract.
 use mathlib.Core.Path.{_≡_}
 use Prim.Native.Nat.{suc, _+_}
 use native.Mathlib.Numerals.{add-one}
@@ -6,8 +6,7 @@ use native.Mathlib.Omega.{arith}
 use lib.ListN.{length-set}
 use borrow.Author.Needs.{needs}
 use Rattle.request_bytes.proofs.Writing.{run}
-use Rattle.request_bytes.proofs.write.put_word.Statement.{statement}
-use Rattle.request_bytes.proofs.write.put_word.Tie as tie
+use Rattle.request_bytes.proofs.write.put_u32le.Tie as tie
 
 slice-write-out-2 : tie.Need-slice-write-out-2
 slice-write-out-2 c = simp length-set (omega arith)
@@ -28,8 +27,8 @@ returns c = let i = c .args .at in
     let e4 : i + 4 ≡ suc (suc (suc (suc i))) = omega arith in
     rw (add-one, e2, e3, e4) (run (c .args .out .now) i _)
 
-pub put-word-spec : {M : Type 1} → statement M
-put-word-spec =
+pub put-u32le-spec : {M : Type 1} → Rattle.request_bytes.proofs.write.put_u32le.Statement.statement M
+put-u32le-spec =
     tie.close (tie.spec (λ c. search needs) (λ c. search needs) (λ c. search needs) slice-write-out-2 (λ c. search needs)
     (λ c. search needs) slice-write-out-3 (λ c. search needs) (λ c. search needs) slice-write-out-4 (λ c. search needs) (λ c. search needs)
     slice-write-out-5 (λ c. search needs) returns)
