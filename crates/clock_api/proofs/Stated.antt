@@ -1,42 +1,11 @@
--- The C functions of the calls as docs/CODES.md states them, in numbers: the chip's seven bytes, the lengths, what a refusal leaves.
+-- What the C functions leave in a lent slice, as docs/CODES.md states it.
 use mathlib.Core.Path.{_≡_, refl}
-use mathlib.Core.Bool.{true, false}
 use mathlib.Core.List.{List, [], _∷_}
 use Prim.Native.Nat.{ℕ}
-use lib.ListN.{replicate}
 use Rattle.types.specs.declared.Refusal.{Refusal}
 use Rattle.types.specs.declared.Answer.the-variants.{Refused}
 use Rattle.types.specs.declared.Planned.{Planned}
-use Rattle.rules.specs.Document01.Refusals.{codeOf}
-use Rattle.rules.proofs.Computes.{byRules}
-use Rattle.clock_api.specs.Calls.{chipFrom, askedOf, bankAsked, reportBy, listBy}
-
--- PLL count, odd P of PLL1, PLL2, PLL3, scale, HSION, HSIDIV
-pub seven-bytes : chipFrom (11 ∷ 12 ∷ 13 ∷ 14 ∷ 15 ∷ 16 ∷ 17 ∷ []) ≡ record { plls = 11; odd = 12 ∷ 13 ∷ 14 ∷ []; scale = 15; hsion = 16; hsidiv = 17 }
-seven-bytes = refl
-
--- a request for nothing on two PLLs: planned for a chip of seven bytes and a slice that has its length, else 1
-abbrev bytes : List ℕ
-bytes = replicate 90 0
-
-abbrev chip : List ℕ
-chip = 2 ∷ 1 ∷ 1 ∷ 1 ∷ 0 ∷ 1 ∷ 2 ∷ []
-
-pub lengths :
-    codeOf (askedOf bytes chip true .answer) ∷ codeOf (askedOf bytes chip false .answer) ∷ codeOf (askedOf bytes (0 ∷ chip) true .answer)
-    ∷ codeOf (askedOf bytes (2 ∷ 1 ∷ 1 ∷ 1 ∷ 0 ∷ 1 ∷ []) true .answer) ∷ []
-    ≡ 0 ∷ 1 ∷ 1 ∷ 1 ∷ []
-unfolding byRules askedOf
-lengths = refl
-
--- the bank call: a report beside it or a chip of another length is 1, before a bank of another length, which is 2
-pub bank-lengths :
-    codeOf (bankAsked bytes chip true 82 .answer) ∷ codeOf (bankAsked bytes chip true 81 .answer) ∷ codeOf (bankAsked bytes chip true 83 .answer)
-    ∷ codeOf (bankAsked bytes chip false 82 .answer) ∷ codeOf (bankAsked bytes chip false 81 .answer)
-    ∷ codeOf (bankAsked bytes (0 ∷ chip) true 82 .answer) ∷ codeOf (bankAsked bytes (0 ∷ chip) true 81 .answer) ∷ []
-    ≡ 0 ∷ 2 ∷ 2 ∷ 1 ∷ 1 ∷ 1 ∷ 1 ∷ []
-unfolding byRules bankAsked
-bank-lengths = refl
+use Rattle.clock_api.specs.Calls.{reportBy, listBy}
 
 -- a refusal changes no lent word
 pub refused-keeps : (n : Refusal) (x : Planned) (room : List ℕ) → reportBy (Refused n) x room ∷ listBy (Refused n) x room ∷ [] ≡ room ∷ room ∷ []

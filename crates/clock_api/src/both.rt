@@ -5,8 +5,8 @@ ghost use lib.ListN.{length};
 ghost use Rattle.rules.specs.Document01.Entries.{entriesOf};
 ghost use Rattle.rules.specs.Document01.Bank.{applyAll};
 ghost use Rattle.rules.specs.Document01.Refusals.{codeOf};
-ghost use Rattle.clock_api.specs.Calls.{bankAsked, reportBy};
-use crate::bank_asked;
+ghost use Rattle.chip_bytes.specs.Calls.{bankAsked};
+ghost use Rattle.clock_api.specs.Calls.{reportBy};
 use crate::report_by;
 
 // A plan's clocks in 55 words, and the whole list applied to a bank of 82 words.
@@ -21,6 +21,6 @@ pub extern "C" fn clock_plan_bank(
     ensures report { λ r. ⌜ now (report .exit) ≡ reportBy (bankAsked (now (request .entry)) (now (chip .entry)) (eqb (length (now (report .entry))) 55) (length (now (bank .entry))) .answer) (bankAsked (now (request .entry)) (now (chip .entry)) (eqb (length (now (report .entry))) 55) (length (now (bank .entry)))) (now (report .entry)) ⌝ }
     ensures bank { λ r. ⌜ now (bank .exit) ≡ applyAll (entriesOf (bankAsked (now (request .entry)) (now (chip .entry)) (eqb (length (now (report .entry))) 55) (length (now (bank .entry))))) (now (bank .entry)) ⌝ }
 {
-    let x = bank_asked(request, chip, report.len() == 55, bank);
+    let x = chip_bytes::plan_bank(request, chip, report.len() == 55, bank);
     report_by(x, report)
 }

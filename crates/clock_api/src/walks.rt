@@ -4,8 +4,7 @@ ghost use mathlib.Core.Bool.{true};
 ghost use lib.ListN.{length};
 ghost use Rattle.rules.specs.Document01.Walk.{steppedOf, freshOf, voltageStepped, voltageTo};
 ghost use Rattle.rules.specs.Words.{shownCount, ran};
-ghost use Rattle.clock_api.specs.Calls.{askedOf};
-use crate::asked;
+ghost use Rattle.chip_bytes.specs.Calls.{askedOf};
 
 // What the register walk of a request shows, nine words each; a refused request shows its refusal. The answer counts them.
 #[no_mangle]
@@ -13,7 +12,7 @@ pub extern "C" fn clock_walk(request: &[u8], chip: &[u8], reads: &[u32], shown: 
     ensures count { λ r. ⌜ r ≡ shownCount (length (now (reads .entry))) (length (now (shown .entry))) ⌝ }
     ensures shown { λ r. ⌜ now (shown .exit) ≡ ran steppedOf (freshOf (askedOf (now (request .entry)) (now (chip .entry)) true)) (now (reads .entry)) (now (shown .entry)) r ⌝ }
 {
-    let x = asked(request, chip, true);
+    let x = chip_bytes::plan(request, chip, true);
     walk::run(x, reads, shown)
 }
 

@@ -7,8 +7,8 @@ use Rattle.clock_api.proofs.clock_bank.Tie as tie
 
 returns : tie.Need-returns
 returns c =
-    let e = c .before .before .before .bank-asked .ensures in
-    (c .code-of .ensures ∙ ap (λ (z : Planned). codeOf (z .answer)) (e .0), e .1)
+    let e = c .before .before .before .plan-bank .ensures in
+    (c .code-by .ensures ∙ ap (λ (z : Planned). codeOf (z .answer)) (e .0), e .1)
 
 pub clock-bank-spec : {M : Type 1} → Rattle.clock_api.proofs.clock_bank.Statement.statement M
 clock-bank-spec = tie.close (tie.spec (λ c κs. search needs) (λ c κs. search needs) (λ c. search needs) returns)

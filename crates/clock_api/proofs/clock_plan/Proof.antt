@@ -3,7 +3,7 @@ use borrow.Author.Needs.{needs}
 use Rattle.clock_api.proofs.clock_plan.Tie as tie
 
 returns : tie.Need-returns
-returns c = rw (← c .before .before .before .before .asked .ensures) (c .before .before .report-by .ensures)
+returns c = rw (← c .before .before .before .before .plan .ensures) (c .before .before .report-by .ensures)
 
 pub clock-plan-spec : {M : Type 1} → Rattle.clock_api.proofs.clock_plan.Statement.statement M
 clock-plan-spec = tie.close (tie.spec (λ c κs. search needs) (λ c κs. search needs) (λ c. search needs) returns)

@@ -11,9 +11,9 @@ returns : tie.Need-returns
 returns c =
     let k = c .before .before .before .before .before .before in
     let a = k .before .before .before .before .before .before .args in
-    let e = k .bank-asked .ensures .0 in
+    let e = k .plan-bank .ensures .0 in
     let told = c .before .before .report-by .ensures in
-    (told .0 ∙ ap (λ (z : Planned). codeOf (z .answer)) e, (told .1 ∙ ap (λ (z : Planned). reportBy (z .answer) z (now (a .report))) e, k .bank-asked .ensures .1))
+    (told .0 ∙ ap (λ (z : Planned). codeOf (z .answer)) e, (told .1 ∙ ap (λ (z : Planned). reportBy (z .answer) z (now (a .report))) e, k .plan-bank .ensures .1))
 
 pub clock-plan-bank-spec : {M : Type 1} → Rattle.clock_api.proofs.both.clock_plan_bank.Statement.statement M
 clock-plan-bank-spec = tie.close (tie.spec (λ c κs. search needs) (λ c κs. search needs) (λ c. search needs) (λ c. search needs) returns)

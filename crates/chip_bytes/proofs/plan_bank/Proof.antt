@@ -1,9 +1,9 @@
--- `clock_api::bank_asked` meets its contract.
+-- `chip_bytes::plan_bank` meets its contract.
 use denote.Ref.{now}
 use borrow.Author.Tests.{not-true, not-false}
-use Rattle.clock_api.proofs.Answers.{bank-no-chip, bank-no-fit, bank-done}
+use Rattle.chip_bytes.proofs.Answers.{bank-no-chip, bank-no-fit, bank-done}
 use borrow.Author.Needs.{needs}
-use Rattle.clock_api.proofs.bank_asked.Tie as tie
+use Rattle.chip_bytes.proofs.plan_bank.Tie as tie
 
 returns : tie.Need-returns
 returns c = bank-no-chip _ _ _ _ (now (c .before .before .before .before .before .args .bank)) (c .before .if1 .taken) (c .refused .ensures)
@@ -14,7 +14,7 @@ returns-2 c = bank-no-fit _ _ _ _ (now (c .before .before .before .before .befor
 returns-3 : tie.Need-returns-3
 returns-3 c = bank-done _ _ _ _ (now (c .before .before .before .before .before .before .before .before .before .before .args .bank)) (c .before .before .before .before .before .before .if1 .left) (not-false _ (c .before .before .before .before .before .if2 .left)) (c .before .before .before .before .chip-from .ensures) (c .before .before .plan-bank .ensures .0) (c .before .before .plan-bank .ensures .1 .0)
 
-pub bank-asked-spec : {M : Type 1} → Rattle.clock_api.proofs.bank_asked.Statement.statement M
-bank-asked-spec =
+pub plan-bank-spec : {M : Type 1} → Rattle.chip_bytes.proofs.plan_bank.Statement.statement M
+plan-bank-spec =
     tie.close (tie.spec (λ c κs. search needs) returns (λ c κs. search needs) returns-2 (λ c κs. search needs) (λ c κs. search needs)
     (λ c. search needs) returns-3)

@@ -1,0 +1,64 @@
+// The planner's calls on a chip's seven bytes: docs/CODES.md, The C functions.
+ghost use mathlib.Core.Path.{_≡_};
+ghost use lib.ListN.{length};
+ghost use Rattle.rules.specs.Document01.Entries.{entriesOf};
+ghost use Rattle.rules.specs.Document01.Bank.{applyAll};
+ghost use Rattle.chip_bytes.specs.Calls.{chipOf, chipFrom, askedOf, bankAsked};
+use types::Chip;
+use types::Planned;
+use types::Refusal;
+
+// The chip's numbers, a byte for each.
+fn chip_of(plls: u8, odd1: u8, odd2: u8, odd3: u8, scale: u8, hsion: u8, hsidiv: u8) -> Chip
+    ensures { λ r. ⌜ r ≡ chipOf plls odd1 odd2 odd3 scale hsion hsidiv ⌝ }
+{
+    Chip {
+        plls: plls as u32,
+        odd: [odd1 as u32, odd2 as u32, odd3 as u32],
+        scale: scale as u32,
+        hsion: hsion as u32,
+        hsidiv: hsidiv as u32,
+    }
+}
+
+fn chip_from(chip: &[u8]) -> Chip
+    requires { ⌜ length (now chip) ≡ 7 ⌝ }
+    ensures { λ r. ⌜ r ≡ chipFrom (now (chip .entry)) ⌝ }
+{
+    chip_of(
+        chip[0],
+        chip[1],
+        chip[2],
+        chip[3],
+        chip[4],
+        chip[5],
+        chip[6],
+    )
+}
+
+// The planner's call, where the slice lent beside it has its length: `fits`.
+pub fn plan(request: &[u8], chip: &[u8], fits: bool) -> Planned
+    ensures { λ r. ⌜ r ≡ askedOf (now (request .entry)) (now (chip .entry)) fits ⌝ }
+{
+    if chip.len() != 7 {
+        return freeze::refused(Refusal::OutsideCodes);
+    }
+    if !fits {
+        return freeze::refused(Refusal::OutsideCodes);
+    }
+    rcc::plan(request, chip_from(chip))
+}
+
+// The call with a bank, likewise.
+pub fn plan_bank(request: &[u8], chip: &[u8], fits: bool, bank: &mut [u32]) -> Planned
+    ensures answer { λ r. ⌜ r ≡ bankAsked (now (request .entry)) (now (chip .entry)) fits (length (now (bank .entry))) ⌝ }
+    ensures bank { λ r. ⌜ now (bank .exit) ≡ applyAll (entriesOf (bankAsked (now (request .entry)) (now (chip .entry)) fits (length (now (bank .entry))))) (now (bank .entry)) ⌝ }
+{
+    if chip.len() != 7 {
+        return freeze::refused(Refusal::OutsideCodes);
+    }
+    if !fits {
+        return freeze::refused(Refusal::OutsideCodes);
+    }
+    rcc::plan_bank(request, chip_from(chip), bank)
+}
