@@ -1,6 +1,6 @@
--- Which refusals the calls on bytes answer: the planner's `planNumbers`, the bank call `bankNumbers`.
+-- Which refusals the calls answer: the planner's `planNumbers`, the bank call `bankNumbers`, a walk over a plan's list `walkNumbers`.
 use mathlib.Core.Path.{_≡_, refl, subst}
-use mathlib.Core.Bool.{Bool, true, false, _&&_, _||_}
+use mathlib.Core.Bool.{Bool, true, false, cond, _&&_, _||_}
 use mathlib.Core.List.{List, [], _∷_}
 use Prim.Native.Nat.{ℕ, zero, suc}
 use native.Mathlib.Omega.{arith}
@@ -8,12 +8,15 @@ use lib.Dec.{eqb, ltb}
 use Rattle.types.specs.declared.Hertz.{Hertz}
 use Rattle.types.specs.declared.Chip.{Chip}
 use Rattle.types.specs.declared.Refusal.{Refusal}
-use Rattle.types.specs.declared.Refusal.the-variants.{OutsideCodes, BankLength}
+use Rattle.types.specs.declared.Refusal.the-variants.{OutsideCodes, BankLength, CsiDown}
 use Rattle.types.specs.declared.Plan.{Plan}
+use Rattle.types.specs.declared.Entry.{Entry}
 use Rattle.types.specs.declared.Answer.the-variants.{Refused}
-use Rattle.rules.specs.Document01.Refusals.{numberOf, typedNumbers, planNumbers, bankNumbers}
+use Rattle.rules.specs.Document01.Refusals.{numberOf, typedNumbers, planNumbers, bankNumbers, walkNumbers}
 use Rattle.rules.specs.Document01.Result.{Result, refused, ok, _>>=_, _>>_, require}
 use Rattle.rules.specs.Document01.Chip.{isBit, isHsidiv, chipOf, permission}
+use Rattle.rules.specs.Document01.Walk.{Stand, before, ended, passes, isCheck, held, steppedOf}
+use Rattle.rules.specs.Stated.Walks.{Pair, after}
 use Rattle.rules.specs.Document01.Bytes.{Read, Reader, fits, byte, end, code, u32le, setTo, hertz, flag, mco1Source, mco2Source, strategy, pllPart, thirdPart, requestPart}
 use Rattle.rules.specs.Document01.Plan.{chosenPlan, answered, requestOf, planOf, bankPlanOf}
 use Rattle.rules.specs.Manual.Tree.{among}
@@ -151,3 +154,28 @@ bank-only bytes chip words =
 pub bank-numbers : (bytes : List ℕ) (chip : Chip) (words : ℕ) (n : Refusal) → bankPlanOf bytes chip words .answer ≡ Refused n → ByBank n
 unfolding bankPlanOf
 bank-numbers bytes chip words n e = read-off ByBank (requestOf bytes chip >>= λ a. require (eqb words 82) BankLength >> chosenPlan (a .request) (a .chip)) n (bank-only bytes chip words) e
+
+-- ---- a walk's own: over any values read, a walk over a list ends with no other number than those
+abbrev EndsBy : Stand → Type 0
+EndsBy (before es) = Unit
+EndsBy (ended n) = among walkNumbers (numberOf n) ≡ true
+
+held-ends : (check : Bool) (s : Stand) → EndsBy s → EndsBy (cond check (ended CsiDown) s)
+held-ends true s h = refl
+held-ends false s h = h
+
+step-ends : (s : Stand) (a b : ℕ) → EndsBy s → EndsBy (steppedOf s a b)
+step-ends (before []) a b h = tt
+step-ends (before (e ∷ es)) a b h = by (passes e a b)
+  where
+    by : (t : Bool) → EndsBy (cond t (before es) (held e es))
+    by true = tt
+    by false = held-ends (isCheck e) (before (e ∷ es)) tt
+step-ends (ended n) a b h = h
+
+after-ends : (s : Stand) (rs : List Pair) → EndsBy s → EndsBy (after steppedOf s rs)
+after-ends s [] h = h
+after-ends s (r ∷ rs) h = after-ends (steppedOf s (r .a) (r .b)) rs (step-ends s (r .a) (r .b) h)
+
+pub walk-numbers : (es : List Entry) (rs : List Pair) (n : Refusal) → after steppedOf (before es) rs ≡ ended n → among walkNumbers (numberOf n) ≡ true
+walk-numbers es rs n e = subst EndsBy e (after-ends (before es) rs tt)
