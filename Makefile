@@ -7,7 +7,7 @@ test:
 	scripts/check-api
 	scripts/make-help --check
 	rt fmt --check
-	scripts/build plan settings $$(sed -n 's/^clock_[a-z]*: //p' crates.txt)
+	scripts/build plan settings $$(scripts/c-crates --needs)
 	scripts/check-host
 	scripts/check-plan
 	. scripts/quick && rt ci
@@ -16,7 +16,7 @@ test:
 library: target/staticlib/libclock_api.a
 	@:
 
-target/staticlib/libclock_api.a: crates.txt scripts/library $(shell find crates -name '*.rt' -o -name '*.antt')
+target/staticlib/libclock_api.a: crates.txt scripts/c-crates scripts/library $(shell find crates -name '*.rt' -o -name '*.antt')
 	@mkdir -p target && scripts/library >target/library.log 2>&1 || { cat target/library.log; exit 1; }
 
 # the planner's library from C and Rust, and against the HAL's sources
