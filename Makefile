@@ -26,7 +26,7 @@ archives := target/firmware/libclock_api-cortex-m33.a target/firmware/libclock_a
 firmware: $(archives)
 	@:
 
-$(archives) &: scripts/firmware target/staticlib/libclock_api.a
+$(archives) &: scripts/firmware scripts/c-crates target/staticlib/libclock_api.a
 	@scripts/firmware
 
 # the planner's library from C and Rust, and against the HAL's sources

@@ -181,7 +181,8 @@ static uint32_t walked(uint32_t k, const uint32_t *reads, uint64_t values, uint6
 
 /* ---- the steps */
 
-static const uint32_t edges[] = {0, 1, 2, 3, 4, 16, 512, 8191, 8192, 65535, 65536, 1000000, 32000000, 250000000, 0x7FFFFFFF, 0x80000000u, 0xFFFFFFFEu, 0xFFFFFFFFu};
+static const uint32_t edges[] = {0,       1,        2,         3,          4,           16,          512,         8191,       8192, 65535, 65536,
+                                 1000000, 32000000, 250000000, 0x7FFFFFFF, 0x80000000u, 0xFFFFFFFEu, 0xFFFFFFFFu};
 enum { EDGES = sizeof edges / sizeof *edges };
 static const uint32_t usual[] = {4000000,   8000000,   12000000,  16000000, 24000000, 25000000, 32000000, 48000000, 50000000,
                                  64000000,  100000000, 150000000, 200000000, 240000000, 250000000, 250000001, 32768,    44100,
@@ -521,10 +522,10 @@ int main(void) {
     plans = refused = 0;
     if (count > 0) changed(REQUESTS);
     printf("changed requests: %d, %" PRIu32 " plans, %" PRIu32 " refusals\n", REQUESTS, plans, refused);
-    printf("register walks: %" PRIu32 " to the end, %" PRIu32 " with a wait again, %" PRIu32 " ended by 24, %" PRIu32 " with less room or fewer values\n",
-           finished, again, ended, less);
-    printf("steps: %" PRIu32 " times FRACN, %" PRIu32 " in range where it was meant to be; %" PRIu32 " PLLs chosen; %" PRIu32 " voltage walks to the end\n",
-           calls[AT_clock_fracn], fractions, plls, arrived);
+    printf("register walks: %" PRIu32 " to the end, %" PRIu32 " with a wait again, %" PRIu32 " ended by 24, ", finished, again, ended);
+    printf("%" PRIu32 " with less room or fewer values\n", less);
+    printf("steps: %" PRIu32 " times FRACN, %" PRIu32 " in range where it was meant to be; ", calls[AT_clock_fracn], fractions);
+    printf("%" PRIu32 " PLLs chosen; %" PRIu32 " voltage walks to the end\n", plls, arrived);
     printf("other lengths: %" PRIu32 " refused\n", refusals);
     flush();
     if (fclose(out) != 0) wrong++;

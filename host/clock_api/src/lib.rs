@@ -28,8 +28,9 @@
 //! # Ok::<(), clock_api::Refusal>(())
 //! ```
 //!
-//! The library is looked for in the folder that `CLOCK_API_LIB` names, else in the project's target/staticlib. Codes and field numbers are
-//! those of docs/CODES.md; [`raw`] has the C functions on slices, for whoever brings bytes of their own.
+//! The library is looked for in the folder that `CLOCK_API_LIB` names, else in the project's target/staticlib, and for an Arm target in
+//! target/firmware. Codes and field numbers are those of docs/CODES.md; [`raw`] has the C functions on slices, for whoever brings bytes of
+//! their own.
 #![no_std]
 #![warn(missing_docs)]
 
