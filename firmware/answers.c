@@ -205,28 +205,51 @@ static void buses(uint32_t clock, uint32_t set, uint32_t hertz) {
 
 static uint32_t fractions, plls, arrived;
 
-/* one PLL: its 16 bytes of a request */
-static void one_pll(void) {
+/* one PLL, by its 16 bytes of a request: P, Q and R as their bits in `set` say */
+static void ask_pll(uint32_t odd, uint32_t source, uint32_t strategy, uint32_t set, const uint32_t *hertz) {
     uint8_t part[CLOCK_PART] = {0};
-    uint32_t largest = 0, odd = below(2), source = usual[below(9)], fractional = below(4), free = below(3);
-    if (free) source = 1000000 + below(49000001);
-    part[0] = fractional != 0;
+    part[0] = (uint8_t)strategy;
     for (uint32_t k = 0; k < 3; k++) {
-        uint32_t hertz = usual[below(USUAL)], left = below(2), how = below(4);
-        if (k > 0 && left) continue;
-        if (how == 0) hertz = 1000000 + below(249000001);
-        if (k > 0 && how > 1) hertz = largest / (1 + below(8));
-        if (hertz > largest) largest = hertz;
+        if ((set >> k & 1) == 0) continue;
         part[1 + 5 * k] = 1;
-        for (uint32_t byte = 0; byte < 4; byte++) part[2 + 5 * k + byte] = (uint8_t)(hertz >> 8 * byte);
+        for (uint32_t byte = 0; byte < 4; byte++) part[2 + 5 * k + byte] = (uint8_t)(hertz[k] >> 8 * byte);
     }
-    put_bytes(part, sizeof part);
+    put(odd), put(source), put_bytes(part, sizeof part);
     now.part = part, now.part_length = sizeof part;
     now.a = odd, now.b = source;
-    if (answered(AT_clock_pll, &few, CLOCK_PLL) == 0) {
-        plls++;
-        measure(AT_clock_pll);
+    if (answered(AT_clock_pll, &few, CLOCK_PLL) == 0) plls++, measure(AT_clock_pll);
+}
+static void drawn_pll(void) {
+    uint32_t hertz[3], set = 1, largest = 0, odd = below(2), source = usual[below(9)], fractional = below(4), free = below(3);
+    if (free) source = 1000000 + below(49000001);
+    for (uint32_t k = 0; k < 3; k++) {
+        uint32_t left = below(2), how = below(4);
+        hertz[k] = usual[below(USUAL)];
+        if (k > 0 && left) continue;
+        if (how == 0) hertz[k] = 1000000 + below(249000001);
+        if (k > 0 && how > 1) hertz[k] = largest / (1 + below(8));
+        if (hertz[k] > largest) largest = hertz[k];
+        set |= 1u << k;
     }
+    ask_pll(odd, source, fractional != 0, set, hertz);
+}
+/* around the bounds of the VCO, of a reference and of 32 bits: each output alone, and beside one of a 128th */
+static void bounds_of_pll(void) {
+    static const uint32_t bounds[] = {1,         1000000,   1171875,   3281250,   4375000,   128000000,  150000000,   250000000,
+                                      210000000, 280000000, 420000000, 480000030, 560000000, 0x7FFFFFFF, 0x80000000u, 0xFFFFFFFEu};
+    static const uint32_t sources[] = {0,       1,       999999,  1000000,  1999999,  2000000,  2000001,  4000000,  8000000,
+                                       15999999, 16000000, 16000001, 25000000, 32000000, 50000000, 63999999, 64000000, 0xFFFFFFFFu};
+    for (uint32_t k = 0; k < sizeof bounds / sizeof *bounds; k++)
+        for (uint32_t source = 0; source < sizeof sources / sizeof *sources; source++)
+            for (uint32_t near = 0; near < 3; near++) {
+                uint32_t at = bounds[k] + near - 1, least = bounds[k] / 128 + near - 1;
+                for (uint32_t strategy = 0; strategy < 2; strategy++) {
+                    for (uint32_t output = 0; output < 3; output++)
+                        ask_pll(source & 1, sources[source], strategy, 1u << output, (const uint32_t[]){at, at, at});
+                    ask_pll(1, sources[source], strategy, 6, (const uint32_t[]){0, bounds[k], least});
+                    ask_pll(0, sources[source], strategy, 5, (const uint32_t[]){bounds[k], 0, least});
+                }
+            }
 }
 
 static void some_steps(void) {
@@ -244,7 +267,7 @@ static void some_steps(void) {
     number(AT_clock_timer, x, y, 0, 0);
     buses(x, w & 1, z);
     stored_in(AT_clock_reset_reason, 2 + (w & 1), x ^ z, 0, CLOCK_REASON), measure(AT_clock_reset_reason);
-    one_pll();
+    drawn_pll();
     for (uint32_t k = 0; k < 8; k++) {
         uint32_t late = below(4);
         reads[k] = late ? 1 : below(4);
@@ -257,7 +280,11 @@ static void some_steps(void) {
 }
 
 static void steps(void) {
-    static const uint32_t ratios[] = {1, 2, 3, 4, 5, 6, 8, 11, 12, 15, 16, 32, 39, 40, 64, 79, 80, 128, 159, 160, 256, 319, 320, 512};
+    static const uint32_t ratios[] = {1, 2, 3, 4, 5, 6, 8, 11, 12, 15, 16, 32, 39, 40, 64, 95, 96, 128, 191, 192, 256, 383, 384, 512};
+    /* the measured ones are drawn first, and so are the same whatever follows */
+    measuring = 1, times = 100;
+    for (uint32_t k = 0; k < 100; k++) some_steps();
+    measuring = 0, times = 1;
     /* every edge with every other */
     for (uint32_t a = 0; a < EDGES; a++)
         for (uint32_t b = 0; b < EDGES; b++) {
@@ -278,16 +305,14 @@ static void steps(void) {
         for (uint32_t c = 0; c < 8; c++)
             for (uint32_t d = 0; d < 3; d++) buses(usual[c] * ratios[k] + d - 1, 1, usual[c]);
     for (uint32_t ppre = 0; ppre < 40; ppre++) number(AT_clock_timer, 250000000, ppre, 0, 0);
+    bounds_of_pll();
     /* every set of reset flags, among other bits */
     for (uint32_t flags = 0; flags < 64; flags++)
         for (uint32_t chip = 2; chip < 4; chip++) {
             uint32_t other = draw() & 0x03FFFFFF;
             stored_in(AT_clock_reset_reason, chip, flags << 26 | other, 0, CLOCK_REASON);
         }
-    for (uint32_t k = 0; k < STEPS; k++) {
-        measuring = k < 100, times = measuring ? 100 : 1;
-        some_steps();
-    }
+    for (uint32_t k = 0; k < STEPS; k++) some_steps();
 }
 
 /* ---- slices of other lengths: refused, and nothing is written */
@@ -512,7 +537,6 @@ int main(void) {
     start_ticks();
 #endif
     steps();
-    measuring = 0;
     lengths();
     before = words;
     measuring = 1;
