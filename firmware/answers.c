@@ -1,6 +1,6 @@
 /* Calls every function of include/clock_api.h and writes every answer, and every word lent, to a file. Compiled for x86-64 and for Cortex-M33, the
- * files must be the same (scripts/check-firmware). The stored answers of the Rust, answers.bin (docs/VECTORS.md), are compared here as well, and so is
- * what no call may change: the words beside a slice, a slice that is refused, the rest of a walk's room.
+ * files must be the same (scripts/check-firmware). The stored answers of the Rust, answers.bin (docs/VECTORS.md), are compared here as well, and so
+ * is what no call may change: the words beside a slice, a slice that is refused, the rest of a walk's room, a request and a chip.
  *
  * On the chip each function runs on a stack of its own, with MSPLIM at its end, and is measured: how much of the stack it used at most, and how many
  * instructions it took, which is time where QEMU runs with -icount shift=0.
@@ -40,8 +40,7 @@ static uint32_t any(void) {
 /* ---- what is written */
 
 static FILE *out;
-static uint32_t buffer[4096], filled, wrong;
-static uint32_t words;
+static uint32_t buffer[4096], filled, words, wrong;
 static void flush(void) {
     if (fwrite(buffer, 4, filled, out) != filled) wrong++;
     filled = 0;
@@ -386,13 +385,15 @@ static uint32_t plans, refused, finished, again, ended, less;
 
 static int same(const Lent *one, const Lent *other) { return memcmp(one, other, sizeof *one) == 0; }
 
-/* all the calls for one request */
+/* all the calls for one request, in 128 bytes */
 static uint32_t ask(const uint8_t *request, uint32_t length, const uint8_t *chip) {
     static Lent both;
+    uint8_t request_before[128], chip_before[CLOCK_CHIP];
     uint32_t code, entries, how, at, values, room, reads[2 * (MOST / 9)];
     const uint32_t *nine, *entry = first(&list) + 1;
     now.request = request, now.request_length = length, now.chip = chip, now.chip_length = CLOCK_CHIP;
     put(length), put_bytes(request, length), put_bytes(chip, CLOCK_CHIP);
+    memcpy(request_before, request, sizeof request_before), memcpy(chip_before, chip, CLOCK_CHIP);
 
     code = answered(AT_clock_plan, &report, CLOCK_REPORT);
     if (code == 0) plans++, measure(AT_clock_plan); else refused++;
@@ -424,6 +425,7 @@ static uint32_t ask(const uint8_t *request, uint32_t length, const uint8_t *chip
         else if (k == entries) wrong += nine[0] != 0 || memcmp(nine + 1, none, 32) != 0, finished++;
         else wrong += memcmp(nine, entry + 9 * k, 36) != 0;
     }
+    if (memcmp(request_before, request, sizeof request_before) != 0 || memcmp(chip_before, chip, CLOCK_CHIP) != 0) wrong++;
     if (code != 0) return code;
 
     /* and values that do not: a wait again, CSIRDY down at its check, fewer values and less room, any values */
