@@ -1,5 +1,5 @@
 -- What the calls answer, case by case: a chip or a slice of another length, or the planner's answer.
-use mathlib.Core.Path.{_≡_, refl}
+use mathlib.Core.Path.{_≡_, refl, ap}
 use mathlib.Core.Logic.{_≢_}
 use mathlib.Core.Bool.{Bool, true, false}
 use mathlib.Core.List.{List}
@@ -7,6 +7,9 @@ use Prim.Native.Nat.{ℕ}
 use borrow.Author.Tests.{eq-eqb, ne-eqb}
 use lib.ListN.{length}
 use Rattle.types.specs.declared.Chip.{Chip}
+use Rattle.types.specs.declared.Refusal.the-variants.{OutsideCodes}
+use Rattle.types.specs.declared.Answer.{Answer}
+use Rattle.types.specs.declared.Answer.the-variants.{Refused}
 use Rattle.types.specs.declared.Planned.{Planned}
 use Rattle.rules.specs.Document01.Plan.{planOf, bankPlanOf}
 use Rattle.rules.specs.Document01.Entries.{entriesOf}
@@ -49,3 +52,14 @@ module _ (request chip : List ℕ) (fits : Bool) (words : ℕ) (b : List ℕ) wh
 
   pub bank-done : {x : Planned} {c : Chip} {b₁ : List ℕ} → length chip ≡ 7 → fits ≡ true → c ≡ chipFrom chip → x ≡ bankPlanOf request c words → b₁ ≡ applyAll (entriesOf x) b → Says x b₁
   bank-done h f d e g = rw (g, e, d, as-bank h f) (refl, refl)
+
+-- ---- and with no slice beside it
+module _ (request chip : List ℕ) (words : ℕ) (b : List ℕ) where
+  abbrev Tells : Answer → List ℕ → Type 0
+  Tells a b₁ = (a ≡ bankAsked request chip true words .answer) × (b₁ ≡ applyAll (entriesOf (bankAsked request chip true words)) b)
+
+  pub alone-no-chip : length chip ≢ 7 → Tells (Refused OutsideCodes) b
+  alone-no-chip h = let s = bank-no-chip request chip true words b {x = outside} h refl in (ap (λ (x : Planned). x .answer) (s .0), s .1)
+
+  pub alone-done : {x : Planned} {c : Chip} {b₁ : List ℕ} → length chip ≡ 7 → c ≡ chipFrom chip → x ≡ bankPlanOf request c words → b₁ ≡ applyAll (entriesOf x) b → Tells (x .answer) b₁
+  alone-done h d e g = let s = bank-done request chip true words b h refl d e g in (ap (λ (x : Planned). x .answer) (s .0), s .1)

@@ -1,9 +1,11 @@
 // The planner's calls on a chip's seven bytes: docs/CODES.md, The C functions.
 ghost use mathlib.Core.Path.{_≡_};
+ghost use mathlib.Core.Bool.{true};
 ghost use lib.ListN.{length};
 ghost use Rattle.rules.specs.Document01.Entries.{entriesOf};
 ghost use Rattle.rules.specs.Document01.Bank.{applyAll};
 ghost use Rattle.chip_bytes.specs.Calls.{chipOf, chipFrom, askedOf, bankAsked};
+use types::Answer;
 use types::Chip;
 use types::Planned;
 use types::Refusal;
@@ -61,4 +63,16 @@ pub fn plan_bank(request: &[u8], chip: &[u8], fits: bool, bank: &mut [u32]) -> P
         return freeze::refused(Refusal::OutsideCodes);
     }
     rcc::plan_bank(request, chip_from(chip), bank)
+}
+
+// The call with a bank and no slice beside it: whether there is a plan. The plan itself is not handed on, which spares a copy.
+pub fn answer_bank(request: &[u8], chip: &[u8], bank: &mut [u32]) -> Answer
+    ensures answer { λ r. ⌜ r ≡ bankAsked (now (request .entry)) (now (chip .entry)) true (length (now (bank .entry))) .answer ⌝ }
+    ensures bank { λ r. ⌜ now (bank .exit) ≡ applyAll (entriesOf (bankAsked (now (request .entry)) (now (chip .entry)) true (length (now (bank .entry))))) (now (bank .entry)) ⌝ }
+{
+    if chip.len() != 7 {
+        return Answer::Refused(Refusal::OutsideCodes);
+    }
+    let x = rcc::plan_bank(request, chip_from(chip), bank);
+    x.answer
 }

@@ -70,13 +70,6 @@ pub extern "C" fn clock_bank(request: &[u8], chip: &[u8], bank: &mut [u32]) -> u
     ensures code { λ r. ⌜ r ≡ codeOf (bankAsked (now (request .entry)) (now (chip .entry)) true (length (now (bank .entry))) .answer) ⌝ }
     ensures bank { λ r. ⌜ now (bank .exit) ≡ applyAll (entriesOf (bankAsked (now (request .entry)) (now (chip .entry)) true (length (now (bank .entry))))) (now (bank .entry)) ⌝ }
 {
-    let x = chip_bytes::plan_bank(request, chip, true, bank);
-    code_by(x)
-}
-
-fn code_by(x: Planned) -> u32
-    ensures { λ r. ⌜ r ≡ codeOf (x .answer) ⌝ }
-{
-    let answer = x.answer;
+    let answer = chip_bytes::answer_bank(request, chip, bank);
     refusal::code_of(answer)
 }
