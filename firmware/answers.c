@@ -20,6 +20,10 @@
 #ifndef OUT
 #define OUT "words"
 #endif
+#ifndef REFUSALS
+#error "REFUSALS: the numbers of the refusals that a call answers, with commas (scripts/check-firmware has them from docs/CODES.md)"
+#endif
+static const uint8_t refusals_to_meet[] = {REFUSALS};
 
 enum { STEPS = 3000, GUARD = 16, MOST = 81 * CLOCK_ENTRY };
 
@@ -557,9 +561,8 @@ int main(void) {
     if (fclose(out) != 0) wrong++;
     printf("words: %" PRIu32 ", %" PRIu32 " of them before the requests\n", words, before);
     for (uint32_t k = 0; k < COUNT; k++) printf("called: %s %" PRIu32 "\n", functions[k].name, calls[k]);
-    /* each refusal was given: 12 fits no request */
-    for (uint32_t k = 1; k <= 24; k++)
-        if (k != 12 && met[k] == 0) printf("refusal %" PRIu32 " was not met\n", k), wrong++;
+    for (uint32_t k = 0; k < sizeof refusals_to_meet / sizeof *refusals_to_meet; k++)
+        if (met[refusals_to_meet[k]] == 0) printf("refusal %d was not met\n", refusals_to_meet[k]), wrong++;
     if (!again || !ended || !less || !fractions || !plls || !arrived) wrong++;
 #ifdef __arm__
     uint32_t loops = 500000, tick = SYSTICK[2], each;
