@@ -1,16 +1,16 @@
 -- Laws on sheets: a word put on one, and a key taken off.
 use mathlib.Core.Path.{_≡_, refl, sym, _∙_}
-use mathlib.Core.Bool.{true, false, _&&_}
+use mathlib.Core.Bool.{true, false}
 use mathlib.Core.List.{List}
-use Prim.Native.Nat.{ℕ, suc, _+_, _-_, _/_, _≤_, _<_}
+use Prim.Native.Nat.{ℕ, _+_, _-_, _/_, _≤_}
 use native.Mathlib.Omega.{arith}
-use lib.Dec.{ltb, eqb}
-use lib.ListN.{length, getD, take, drop, set, length-set, length-take, List·getD-eq-default}
-use lib.Seq.{sets, length-sets, take-nil}
-use borrow.Author.Tests.{ltb-true, ltb-false, leb-true, eqb-false, ne-eqb, not-true}
+use lib.Dec.{eqb}
+use lib.ListN.{length, getD, take, drop, set, length-set, length-take}
+use lib.Seq.{sets, length-sets}
+use borrow.Author.Tests.{leb-true, eqb-false, not-true}
 use Rattle.laws.proofs.Tests.{by-test, either, and-left, and-right}
 use Rattle.text.specs.Names.{before, behind}
-use Rattle.text.proofs.Parts.{left-one, left-none, within}
+use Rattle.text.proofs.Parts.{within}
 use Rattle.sheet.specs.Sheet.{freshSheet}
 use Rattle.ask.specs.Table.{kinds, places}
 use Rattle.ask.specs.Words.{keyOf, saidBy}

@@ -1,7 +1,6 @@
 -- The keys of a request's words, and the names that values have. docs/CODES.md, A request in words.
 use mathlib.Core.List.{List, [], _∷_}
 use Prim.Native.Nat.{ℕ}
-use Prim.Native.String.{String}
 use Rattle.text.specs.Names.{tableOf}
 
 -- the keys, by number: the clocks, bypass, the clock outputs, each PLL with its outputs, the chip's numbers, what is shown, the bytes of a request

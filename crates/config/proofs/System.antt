@@ -6,11 +6,10 @@ use lib.Dec.{eqb}
 use Rattle.types.specs.declared.PllRequest.{PllRequest}
 use Rattle.types.specs.declared.Request.{Request}
 use Rattle.types.specs.declared.Refusal.the-variants.{AboveLimit, McoHseUnstated, Pll1PUnlikeSystem, SourceZero}
-use Rattle.types.specs.declared.Answer.the-variants.{Accepted}
 use Rattle.rules.specs.Document01.Result.{Result, refused, ok}
 use Rattle.rules.specs.Document01.Hertz.{isSet}
 use Rattle.rules.specs.Document01.Request.{within, fromHse1, fromHse2, sourceOf, systemOf, pllAt, pll1Asked, pll2Asked, systemFits, sourced, configured, like}
-use Rattle.config.specs.Config.{blank, settledBy, finished, finishedBy, pll1Final}
+use Rattle.config.specs.Config.{blank, settledBy, finished, finishedBy}
 
 -- a test and the other that it needs
 pub unlike : (a b : Bool) → a && not b ≡ true → not a || b ≡ false

@@ -1,5 +1,5 @@
 -- Document 01, One call, steps 1 to 3 as a call, with refusals 3 to 6.
-use mathlib.Core.Bool.{Bool, true, false, not, cond, _||_}
+use mathlib.Core.Bool.{Bool, false, not, cond, _||_}
 use mathlib.Core.List.{[], _∷_}
 use Prim.Native.Nat.{ℕ}
 use lib.Dec.{eqb}

@@ -9,7 +9,7 @@ use borrow.Author.Tests.{ne-eqb}
 use Rattle.rules.specs.Manual.Path.{PllName, whole, part, Path, direct, through, product, num, den, extend}
 use Rattle.rules.specs.Manual.Tree.{Oscillator, off, runs, Chain, none, along, fromOscillator, switched, gated, over, hsiBy, timerBy, vcoBy}
 use Rattle.exact.specs.declared.Reading.the-variants.{Nothing, Exactly}
-use Rattle.exact.specs.Exact.{cap, readingOf, scaledBy}
+use Rattle.exact.specs.Exact.{readingOf, scaledBy}
 use Rattle.exact.proofs.Cap.{max, cap-fits, cap-times}
 
 -- ---- one more division at the end

@@ -25,12 +25,12 @@ use Rattle.types.specs.declared.Plan.{Plan}
 use Rattle.types.specs.declared.Answer.the-variants.{Accepted}
 use Rattle.types.specs.declared.Entry.{Entry}
 use Rattle.types.specs.declared.Refusal.the-variants.{BusZero, AhbZero, McoZero, McoRatio}
-use Rattle.laws.proofs.Tests.{either, and-right, at-each}
+use Rattle.laws.proofs.Tests.{and-right, at-each}
 use Rattle.rules.specs.Document01.Result.{Result, refused, ok, require}
 use Rattle.rules.specs.Document01.Hertz.{ratioOf, hertzOr, notZero}
 use Rattle.rules.specs.Document01.Request.{sourceOf, askedOf}
 use Rattle.rules.specs.Document01.OnePll.{firstOf, pClock, qClock, pllFrom}
-use Rattle.rules.specs.Document01.Buses.{hpreOf, ppreOf, hpreFor, ahbOf, apbOf}
+use Rattle.rules.specs.Document01.Buses.{hpreFor, ahbOf, apbOf}
 use Rattle.rules.specs.Document01.Mco.{mco1Input, mco2Input, mcoOf}
 use Rattle.rules.specs.Document01.Plan.{pllsOf, hsiReady, systemFrom, busesOf, mcosOf, planWith, chosenPlan, answered, answerTo}
 use Rattle.rules.specs.Document01.Entries.{outputEntries, fractionEntries, baseEntries, settingEntries, setupEntries, pllIn, prftenOf, clockEntries, bit, hseEntries, sourceEntries, outputStart, startEntries, busEntries, planEntries, entriesOf, listWith}

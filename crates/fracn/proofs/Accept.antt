@@ -1,13 +1,10 @@
 -- `fracnCut` by the code's two tests.
 use mathlib.Core.Path.{_≡_, refl, sym, ap, _∙_, subst}
-use Prim.Native.Nat.{ℕ, _<_, _^_}
+use Prim.Native.Nat.{ℕ}
 use mathlib.Core.Bool.{Bool, true, false, _&&_}
 use lib.IntN.{pos}
-use lib.Dec.{T, lit≤, lit<}
-use native.Mathlib.Nat.{lt-of-lt-of-le}
+use lib.Dec.{T, lit≤}
 use lib.Ieee.{Float, fin, lt, le, ofInt, toUnsigned}
-use lib.Ieee.Casts.{toUnsigned-lt}
-use Rattle.types.specs.declared.Fracn.{Fracn}
 use Rattle.types.specs.declared.Fracn.the-variants.{Value, OutOfRange}
 use Rattle.types.specs.declared.Fraction.the-variants.{Part}
 use Rattle.types.specs.declared.Refusal.the-variants.{FracnOutside}

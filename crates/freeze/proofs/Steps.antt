@@ -1,25 +1,23 @@
 -- `chosenPlan` in the pieces that the functions answer.
-use mathlib.Core.Path.{_≡_, refl, sym, ap, _∙_}
-use mathlib.Core.Bool.{Bool, true, false, not, _||_}
-use mathlib.Core.List.{List, [], _∷_}
-use Prim.Native.Nat.{ℕ, zero, suc, _+_, _<_}
+use mathlib.Core.Path.{_≡_, refl, ap}
+use mathlib.Core.Bool.{true, false, not, _||_}
+use mathlib.Core.List.{List}
+use Prim.Native.Nat.{ℕ, _<_}
 use native.Mathlib.Omega.{arith}
 use lib.Dec.{eqb, ltb}
 use lib.ListN.{getD}
 use borrow.Author.Tests.{lt-ltb, not-true}
 use Rattle.types.specs.declared.Request.{Request}
 use Rattle.types.specs.declared.ChipState.{ChipState}
-use Rattle.types.specs.declared.PllRequest.{PllRequest}
-use Rattle.types.specs.declared.Pll.{Pll}
 use Rattle.types.specs.declared.PllPlan.{PllPlan}
 use Rattle.types.specs.declared.Refusal.{Refusal}
 use Rattle.types.specs.declared.Refusal.the-variants.{OutsideCodes, HsiOff, HsidivNot2, SourceZero}
 use Rattle.types.specs.declared.Answer.the-variants.{Accepted, Refused}
-use Rattle.rules.specs.Document01.Result.{Result, refused, ok, _>>=_}
+use Rattle.rules.specs.Document01.Result.{Result, refused, ok}
 use Rattle.rules.specs.Document01.Chip.{divisorOf, hasPll}
 use Rattle.rules.specs.Document01.Bytes.{noPart, isNoPart}
 use Rattle.rules.specs.Document01.Request.{pllAt, limited, stated, systemFits, sourced, configured, sourceOf, needsPll1, askedOf}
-use Rattle.rules.specs.Document01.Plan.{plannedAt, byNumber, pllsOf, chosenPlan, systemFrom, busesOf, mcosOf, answered, answerTo, answerTyped}
+use Rattle.rules.specs.Document01.Plan.{plannedAt, pllsOf, chosenPlan, systemFrom, busesOf, mcosOf, answered, answerTo, answerTyped}
 use Rattle.rules.proofs.Document01.Results.{then-ok, require-ok}
 use Rattle.config.specs.declared.Configured.{Configured}
 use Rattle.config.specs.Config.{settledBy}

@@ -1,6 +1,6 @@
 -- FRACN and VCO over whole numbers at bench settings C and I of document 01, computed.
 use mathlib.Core.Path.{_≡_, refl}
-use Prim.Native.Nat.{ℕ, _+_, _*_, _/_, _<_}
+use Prim.Native.Nat.{_+_, _*_, _/_, _<_}
 use native.Mathlib.Omega.{arith}
 use Rattle.types.specs.declared.Fracn.the-variants.{Value, OutOfRange}
 use Rattle.ieee754.specs.Whole.{unit, rounded, whole, quotientWhole, fracnWhole, vcoWhole}

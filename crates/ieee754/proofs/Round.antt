@@ -4,7 +4,7 @@ use mathlib.Core.Logic.{inl, inr}
 use Prim.Native.Nat.{ℕ, zero, suc, _+_, _-_, _*_, _/_, _%_, _^_, _≤_, _<_, zero-le, compare, Ordering, Ordering·lt, compare·zero-suc}
 use native.Mathlib.Nat.{le-trans, le-of-eq, lt-irrefl, lt-of-le-of-lt, lt-of-lt-of-le, eq-or-lt-of-le, mul-one, one-mul, mul-comm, mul-assoc, mul-right-comm, mul-le-mul-right, le-div-iff-mul-le, div-div-eq-div-mul, mul-pos, mul-div-cancel, mul-mod-left}
 use native.Mathlib.Omega.{arith}
-use lib.Dec.{lit<, lit≤}
+use lib.Dec.{lit<}
 use lib.Pow.{pow-add, pow-pos, pow-mono, shl-lt}
 use lib.Ieee.{size, nearest, binary32}
 use lib.Ieee.Digits.{size-lt, size-le, size-reaches, back}

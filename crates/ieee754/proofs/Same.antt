@@ -1,21 +1,20 @@
 -- At f32 values of whole numbers below 2 ^ 32, the f32 definitions are the definitions over whole numbers. Nothing overflows there: every value is below 2 ^ 97.
 use mathlib.Core.Path.{_≡_, refl, sym, ap, _∙_, subst}
 use Prim.Native.Nat.{ℕ, _+_, _-_, _*_, _/_, _^_, _≤_, _<_, min}
-use native.Mathlib.Nat.{le-trans, le-of-eq, le-of-lt, lt-of-le-of-lt, lt-of-lt-of-le, mul-one, mul-assoc, mul-right-comm, mul-pos, mul-le-mul, mul-le-mul-left, mul-le-mul-right, add-le-add, one-mul, le-of-suc-le-suc, div-lt-iff-lt-mul}
+use native.Mathlib.Nat.{le-trans, le-of-eq, lt-of-le-of-lt, lt-of-lt-of-le, mul-one, mul-assoc, mul-right-comm, mul-pos, mul-le-mul, mul-le-mul-left, mul-le-mul-right, add-le-add, one-mul, le-of-suc-le-suc, div-lt-iff-lt-mul}
 use native.Mathlib.Omega.{arith}
 use mathlib.Core.Bool.{Bool, true, false, _&&_}
-use lib.IntN.{pos}
 use lib.Dec.{leb, leb·zero, lit≤, lit<}
 use lib.Pow.{pow-add, pow-pos, pow-lt}
-use lib.Ieee.{Float, fin, binary32, round, ofInt, add, sub, mul, div, le, toUnsigned}
+use lib.Ieee.{Float, binary32, round, ofInt, add, sub, mul, div, le, toUnsigned}
 use lib.Ieee.Exact.{HasValue}
 use lib.Ieee.Scale.{overflow, round-same}
 use borrow.Author.Tests.{leb-true, leb-false}
 use Rattle.types.specs.declared.Fracn.{Fracn}
 use Rattle.types.specs.declared.Fracn.the-variants.{Value, OutOfRange}
-use Rattle.ieee754.specs.Steps.{float, accept, fracnFloat, fracnCut, fracnOf, vcoOf}
+use Rattle.ieee754.specs.Steps.{float, accept, fracnCut, fracnOf, vcoOf}
 use Rattle.ieee754.specs.Whole.{unit, rounded, whole, times, over, plus, less, quotientWhole, fracnWhole, vcoWhole}
-use Rattle.ieee754.proofs.Round.{rounded-grid, rounded-mono, rounded-le, rounded-ge, rounded-pos, rounded-exact}
+use Rattle.ieee754.proofs.Round.{rounded-grid, rounded-le, rounded-ge, rounded-pos, rounded-exact}
 use Rattle.ieee754.proofs.Values.{round-value, mul-val, div-val, add-val, sub-val, sub-neg, le-val, cut-val, neg-val}
 
 -- x is a units, and -a units

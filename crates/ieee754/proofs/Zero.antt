@@ -6,9 +6,9 @@ use native.Mathlib.Omega.{arith}
 use borrow.Author.Tests.{ne-eqb}
 use lib.Dec.{eqb}
 use lib.IntN.{ℤ, pos}
-use lib.Ieee.{Format, Float, nan, inf, fin, binary32, neg, add, sub, mul, div, lt, eq, le, ofInt, unlike}
+use lib.Ieee.{Float, nan, inf, fin, binary32, neg, add, sub, mul, div, lt, eq, le, ofInt, unlike}
 use Rattle.types.specs.declared.Fracn.the-variants.{OutOfRange}
-use Rattle.ieee754.specs.Steps.{float, fracnFloat, fracnCut, fracnOf}
+use Rattle.ieee754.specs.Steps.{float, fracnCut, fracnOf}
 use Rattle.ieee754.specs.Whole.{fracnFor}
 use Rattle.ieee754.proofs.Same.{fracn-same}
 

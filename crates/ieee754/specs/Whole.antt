@@ -2,7 +2,7 @@
 -- `size n` is how many binary digits n has, and `closest a b` is a / b to the nearest whole number, a tie to the even one (`lib.Ieee`, `lib.Ieee.Nearest`).
 
 use Prim.Native.Nat.{ℕ, _+_, _-_, _*_, _/_, _^_, min}
-use mathlib.Core.Bool.{Bool, cond, _&&_}
+use mathlib.Core.Bool.{cond, _&&_}
 use lib.Dec.{leb, eqb}
 use lib.Ieee.{size}
 use lib.Ieee.Nearest.{closest}

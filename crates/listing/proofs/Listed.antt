@@ -8,7 +8,7 @@ use Rattle.types.specs.declared.Entry.{Entry}
 use Rattle.rules.specs.Words.{storedAt, listedFrom, listed}
 use Rattle.rules.proofs.Document01.Run.{stored-length}
 use Rattle.entries.specs.declared.EntryAt.{EntryAt}
-use Rattle.entries.specs.declared.EntryAt.the-variants.{Is, Past}
+use Rattle.entries.specs.declared.EntryAt.the-variants.{Is}
 use Rattle.entries.specs.Place.{entryAt}
 use Rattle.listing.specs.Listing.{placeWords}
 

@@ -2,8 +2,7 @@
 use mathlib.Core.Bool.{Bool, _&&_, _||_}
 use lib.Dec.{eqb, ltb}
 use Rattle.types.specs.declared.Chip.{Chip}
-use Rattle.types.specs.declared.ChipState.{ChipState}
-use Rattle.rules.specs.Document01.Chip.{isBit, isHsidiv, hsidivOf, scaleOf, permission}
+use Rattle.rules.specs.Document01.Chip.{isBit, isHsidiv, permission}
 
 -- permissions 0 or 1
 abbrev pub oddsOk : Chip → Bool

@@ -15,7 +15,7 @@ use Rattle.types.specs.declared.Strategy.the-variants.{Integer, Fractional}
 use Rattle.types.specs.declared.PllRequest.{PllRequest}
 use Rattle.types.specs.declared.Request.{Request}
 use Rattle.rules.specs.Document01.Bytes.{noPart, requestBytes, sizeOf}
-use Rattle.rules.proofs.Document01.BytesWhole.{hertz-length, pll-length, written-length}
+use Rattle.rules.proofs.Document01.BytesWhole.{hertz-length, written-length}
 use Rattle.laws.proofs.Tests.{never, and-left, and-right}
 use Rattle.request_bytes.specs.Writing.{isWritten, roomAfter, Stored, threeBytes, clocksBytes, outputsBytes, pllsBytes}
 use Rattle.rules.specs.Document01.Bytes.{isUnset, isInteger, isNoPart}

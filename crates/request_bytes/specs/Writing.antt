@@ -1,17 +1,13 @@
 -- The byte form of a request, written: document 01, One call, from the top, second paragraph, in three groups of bytes. That these are the bytes
 -- of `requestBytes` of crates/rules is proved in proofs/Writing.antt.
 use mathlib.Core.Path.{_≡_}
-use mathlib.Core.Bool.{Bool, true, false, cond, _&&_, _||_}
+use mathlib.Core.Bool.{Bool, cond, _&&_, _||_}
 use mathlib.Core.List.{List, _∷_, _++_}
 use Prim.Native.Nat.{ℕ}
 use lib.Dec.{eqb}
 use lib.ListN.{length}
 use lib.Seq.{sets}
 use Rattle.types.specs.declared.Hertz.{Hertz}
-use Rattle.types.specs.declared.Hertz.the-variants.{Unset, Hz}
-use Rattle.types.specs.declared.Strategy.{Strategy}
-use Rattle.types.specs.declared.Strategy.the-variants.{Integer, Fractional}
-use Rattle.types.specs.declared.PllRequest.{PllRequest}
 use Rattle.types.specs.declared.Request.{Request}
 use Rattle.rules.specs.Document01.Request.{pllAt}
 use Rattle.rules.specs.Document01.Mco.{mco1Code, mco2Code}

@@ -1,7 +1,5 @@
 -- What a computed theorem opens, in one place: `unfolding byRules`, `unfolding byBank` and `unfolding byTree` open every definition
 -- named here.
-use mathlib.Core.List.{List}
-use Prim.Native.Nat.{ℕ}
 use Rattle.types.specs.declared.Planned.{Planned}
 use Rattle.rules.specs.Document01.Bytes.{byte, end, code, u32le, hertz, flag, mco1Source, mco2Source, strategy, pllPart, requestPart, requestBytes}
 use Rattle.rules.specs.Document01.Chip.{chipOf}
@@ -14,7 +12,7 @@ use Rattle.rules.specs.Document01.Buses.{peripheralOf, ahbOf, apbOf, tim
 use Rattle.rules.specs.Document01.Mco.{mco1Input, mco2Input, mcoOf}
 use Rattle.rules.specs.Document01.Flash.{atColumn, flashOf}
 use Rattle.rules.specs.Document01.Plan.{pllsOf, busesOf, mcosOf, planWith, chosenPlan, blankPlan, answerTo, requestOf, planOf, bankPlanOf}
-use Rattle.rules.specs.Document01.Entries.{settingEntries, clockEntries, busEntries, planEntries, entriesOf, listWith}
+use Rattle.rules.specs.Document01.Entries.{settingEntries, clockEntries, busEntries, entriesOf, listWith}
 use Rattle.rules.specs.Document01.Bank.{resetBank}
 use Rattle.rules.specs.Manual.Tree as Tree
 use Rattle.rules.specs.Document01.Request.{configured}

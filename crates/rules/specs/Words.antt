@@ -1,5 +1,5 @@
 -- Entries and what a walk shows as nine words each, for callers that have numbers and slices alone: docs/CODES.md, Entries as words.
-use mathlib.Core.Bool.{Bool, cond}
+use mathlib.Core.Bool.{cond}
 use mathlib.Core.List.{List, [], _∷_}
 use Prim.Native.Nat.{ℕ, zero, suc, _+_, _*_, _/_}
 use lib.Dec.{ltb, leb}

@@ -7,7 +7,7 @@ use native.Mathlib.Omega.{arith}
 use lib.Dec.{leb, eqb}
 use borrow.Author.Tests.{leb-true, eq-eqb, ne-eqb}
 use Rattle.laws.proofs.Tests.{and-left, either}
-use Rattle.text.specs.Numbers.{isDigit, withDigit}
+use Rattle.text.specs.Numbers.{isDigit}
 use Rattle.template.specs.declared.State.{State}
 use Rattle.template.specs.Template.{atStage, shownBy, inBraces, next, commandWrites, writes}
 

@@ -1,12 +1,11 @@
 -- Laws on texts written one behind the other, as far as there is room.
 use mathlib.Core.Path.{_≡_, refl, sym, ap, _∙_}
-use mathlib.Core.Logic.{⊎-elim}
 use mathlib.Core.List.{List, [], _∷_, _++_}
-use Prim.Native.Nat.{ℕ, zero, suc, _+_, _-_, _≤_, _<_, min}
+use Prim.Native.Nat.{ℕ, suc, _+_, _-_, _≤_, _<_}
 use native.Mathlib.Numerals.{add-one}
 use native.Mathlib.Omega.{arith}
 use lib.Dec.{ltb}
-use lib.ListN.{length, set, take, getD, replicate, length-append, length-set, length-replicate, replicate-append-replicate}
+use lib.ListN.{length, set, take, getD, replicate, length-append, replicate-append-replicate}
 use lib.Seq.{sets, length-sets, set-out, take-suc, take-all}
 use borrow.Author.Tests.{ltb-true, ltb-false}
 use Rattle.laws.proofs.Tests.{by-test}

@@ -3,7 +3,7 @@
 --   {k}     number k in decimal           {w:k}   the same, blanks before it up to w columns
 --   {k#}    the name with number k        {k|}    the same, blanks behind it up to twelve columns
 --   {k?}    what follows is written only where number k is not 0, {k!} only where it is 0, {.} in any case
-use mathlib.Core.Bool.{Bool, true, cond, not}
+use mathlib.Core.Bool.{Bool, true, cond}
 use mathlib.Core.List.{List, [], _∷_, _++_}
 use Prim.Native.Nat.{ℕ, zero, suc, _%_}
 use lib.Dec.{ltb, eqb}

@@ -1,8 +1,8 @@
 -- A clock of a plan as the numbers of one line: docs/CODES.md, The page of a plan.
-use mathlib.Core.Bool.{Bool, cond, not, _&&_}
+use mathlib.Core.Bool.{cond, not, _&&_}
 use mathlib.Core.List.{List, [], _∷_}
-use Prim.Native.Nat.{ℕ, zero, suc, _+_, _-_, _*_, _/_, _%_}
-use lib.Dec.{ltb, leb, eqb}
+use Prim.Native.Nat.{ℕ, _+_, _-_, _*_, _/_, _%_}
+use lib.Dec.{leb, eqb}
 use lib.ListN.{getD, replicate}
 use Rattle.types.specs.declared.Hertz.{Hertz}
 use Rattle.rules.specs.Document01.Fields

@@ -11,17 +11,16 @@ use Rattle.types.specs.declared.Refusal.{Refusal}
 use Rattle.types.specs.declared.Refusal.the-variants.{CsiDown}
 use Rattle.types.specs.declared.Answer.{Answer}
 use Rattle.types.specs.declared.Answer.the-variants.{Accepted, Refused}
-use Rattle.types.specs.declared.Planned.{Planned}
 use Rattle.types.specs.declared.Shown.{Shown}
 use Rattle.types.specs.declared.Shown.the-variants.{Next, Finished, Stopped}
-use Rattle.rules.specs.Document01.Entries.{entriesOf, answerEntries}
-use Rattle.rules.specs.Document01.Walk.{Stand, before, ended, shownOf, passes, isCheck}
+use Rattle.rules.specs.Document01.Entries.{entriesOf}
+use Rattle.rules.specs.Document01.Walk.{before, shownOf, passes, isCheck}
 use Rattle.rules.proofs.Document01.Length.{at-most}
 use Rattle.entries.specs.declared.EntryAt.{EntryAt}
 use Rattle.entries.specs.declared.EntryAt.the-variants.{Is, Past}
 use Rattle.entries.specs.Place.{entryAt}
 use Rattle.walk.specs.declared.Walk.{Walk}
-use Rattle.walk.specs.Walk.{standAt, standOf, passedWalk, steppedBy, steppedWalk, markOf, markShown}
+use Rattle.walk.specs.Walk.{standAt, standOf, steppedBy, steppedWalk, markShown}
 
 -- what a walk at that place shows
 abbrev pub shownBy : EntryAt → Shown

@@ -2,11 +2,11 @@
 use mathlib.Core.Path.{_≡_, refl, ap}
 use mathlib.Core.List.{List}
 use mathlib.Core.Logic.{_⊎_, inl, inr, ⊎-elim}
-use mathlib.Core.Bool.{Bool, true, false, cond}
+use mathlib.Core.Bool.{true, false, cond}
 use Prim.Native.Nat.{ℕ, _/_, _≤_}
 use native.Mathlib.Omega.{arith}
 use native.Mathlib.Nat.{div-le-self, zero-div, zero-mod}
-use lib.Dec.{leb, eqb, lit≤}
+use lib.Dec.{eqb}
 use borrow.Author.Tests.{eqb-true, ne-eqb, not-true, not-false}
 use Rattle.types.specs.declared.Entry.{Entry}
 use Rattle.types.specs.declared.Hertz.{Hertz}
@@ -15,7 +15,7 @@ use Rattle.types.specs.declared.Request.{Request}
 use Rattle.rules.specs.Document01.Result as Rules
 use Rattle.rules.specs.Document01.Result.{Result, ok}
 use Rattle.rules.specs.Document01.Hertz.{ratioOf, hertzOr, notZero}
-use Rattle.rules.specs.Document01.Buses.{hpreOf, ppreOf, hpreFor, ahbOf, apbOf, timerOf}
+use Rattle.rules.specs.Document01.Buses.{hpreOf, hpreFor, ahbOf, apbOf, timerOf}
 use Rattle.rules.specs.Document01.Plan as R
 use Rattle.rules.specs.Document01.Plan.{busesOf}
 use Rattle.claims.specs.Rust.Run.{Outcome, panics, ends, Run, continue, return, div-ceil, unwrap-or}

@@ -1,5 +1,5 @@
 -- 14 and 15 are answered only where one of the chip's PLLs has a divider that they refuse, whether freeze panics or ends.
-use mathlib.Core.Path.{_≡_, refl, sym, ap, _∙_, subst}
+use mathlib.Core.Path.{_≡_, refl, sym, ap, _∙_}
 use mathlib.Core.Logic.{_⊎_, inl, inr}
 use mathlib.Core.Bool.{Bool, true, false, not, cond, _&&_, _||_}
 use Prim.Native.Nat.{ℕ, _/_, _%_, _≤_, _<_}
@@ -17,14 +17,14 @@ use Rattle.types.specs.declared.Refusal.the-variants.{AboveLimit, McoHseUnstate
 use Rattle.rules.specs.Document01.Result.{Result, refused, ok, _>>=_, _>>_}
 use Rattle.rules.specs.Document01.Refusals.{numberOf}
 use Rattle.rules.specs.Document01.Hertz.{isSet, notZero}
-use Rattle.rules.specs.Document01.Request.{pllAt, within, limited, fromHse1, fromHse2, stated, pll1Asked, pll2Asked, sourceOf, systemOf, needsPll1, like, askedOf, sourced, systemFits, configured}
+use Rattle.rules.specs.Document01.Request.{within, limited, fromHse1, fromHse2, stated, pll1Asked, sourceOf, systemOf, needsPll1, like, askedOf, systemFits, configured}
 use Rattle.rules.specs.Document01.ChoiceOfM.{chosenM}
 use Rattle.rules.specs.Document01.OnePll.{wanted, noneZero, countedOutputs, least, largest, admissible, firstOf, fractionOf, dividerP, allowedP, spanned, rangeFor, targetFor, dividedBy, settingsOf, settled, runs, running, pllOf}
 use Rattle.rules.specs.Document01.Plan.{pllsOf, hsiReady, systemFrom, busesOf, mcosOf, chosenPlan, plannedAt}
 use Rattle.claims.specs.Demands.Agreement.{pllCount, Forbidden, Cause}
 use Rattle.rules.specs.Manual.Tree.{among}
 use Rattle.laws.proofs.Tests.{by-test, never, and-left, and-right}
-use Rattle.rules.proofs.Document01.Results.{Only, only-weaker, only-require, only-then, only-next, only-tested, only-known}
+use Rattle.rules.proofs.Document01.Results.{Only, only-weaker, only-require, only-then, only-next, only-tested}
 use Rattle.rules.proofs.Document01.Refusals.{Other, others, fraction-only, spanned-only, buses-only, mcos-only, ready-only}
 use Rattle.rules.proofs.Document01.Span.{pos-is, span}
 use Rattle.claims.proofs.Agreement.Settle.{CountedDivides, above-why, odd-why}

@@ -1,11 +1,10 @@
 -- Nothing departs but 14 and 15: what freeze makes of a plan by definitions of its own is the plan's own list and clocks.
-use mathlib.Core.Path.{_≡_, refl, sym, ap, _∙_}
+use mathlib.Core.Path.{_≡_, refl}
 use mathlib.Core.Bool.{not}
-use mathlib.Core.List.{List, _++_}
+use mathlib.Core.List.{List}
 use Prim.Native.Nat.{ℕ, _/_}
 use lib.Dec.{eqb}
 use Rattle.types.specs.declared.Hertz.{Hertz}
-use Rattle.types.specs.declared.Entry.{Entry}
 use Rattle.types.specs.declared.PllOutput.{PllOutput}
 use Rattle.types.specs.declared.PllOutput.the-variants.{Off, On}
 use Rattle.types.specs.declared.Pll.{Pll}
@@ -24,7 +23,7 @@ use Rattle.rules.specs.Document01.Buses.{ahbOf, apbOf, hpreFor}
 use Rattle.rules.specs.Document01.Entries.{outputStart, startEntries, starts, listWith, planEntries, entriesOf}
 use Rattle.rules.specs.Document01.Plan.{pllsOf, hsiReady, systemFrom, busesOf, mcosOf, planWith, chosenPlan, answered}
 use Rattle.claims.specs.Demands.Departures.{freezeHpre, freezePpre, freezeBus, freezeBuses, startedByP, freezeStarts, freezePlan, freezesOf, asPlanned}
-use Rattle.rules.proofs.Document01.Results.{Holds, holds-then, holds-next, holds-known, holds-tested}
+use Rattle.rules.proofs.Document01.Results.{Holds, holds-then, holds-next, holds-known}
 
 -- ---- the buses: the same divisor of every ratio
 ahb-freezes : (system : ℕ) (h : Hertz) → Holds (λ (b : Bus). b ≡ freezeBus freezeHpre system h) (ahbOf system h)

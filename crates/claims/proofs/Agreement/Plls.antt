@@ -18,8 +18,8 @@ use Rattle.types.specs.declared.ChipState.{ChipState}
 use Rattle.rules.specs.Document01.Result as Rules
 use Rattle.rules.specs.Document01.Result.{Result, refused, ok, require}
 use Rattle.rules.specs.Document01.Hertz.{isSet}
-use Rattle.rules.specs.Document01.Request.{forPll1Q, pllAt, within, fromHse1, fromHse2, pll1Asked, pll2Asked, sourceOf, systemOf, needsPll1, withP, askedOf, sourced, like, systemFits, configured, limited, stated}
-use Rattle.types.specs.declared.Refusal.the-variants.{NOutside, Pll1PUnlikeSystem}
+use Rattle.rules.specs.Document01.Request.{forPll1Q, pllAt, within, fromHse1, fromHse2, pll1Asked, sourceOf, needsPll1, askedOf, sourced, systemFits, configured, limited, stated}
+use Rattle.types.specs.declared.Refusal.the-variants.{NOutside}
 use Rattle.rules.specs.Document01.OnePll.{Range, settingsOf, vcoBy, outputOf, clockOf, pClock, spanned, dividedBy, settled, fractionOf, allowedP, dividerP, runs, running, pllOf, rangeFor, targetFor, firstOf, pllFrom}
 use Rattle.rules.specs.Document01.Entries.{setupEntries}
 use Rattle.rules.specs.Document01.Plan as R

@@ -1,6 +1,6 @@
 -- The wait states of document 01 are the manual's, up to the highest AHB clock of each voltage scale.
 use mathlib.Core.Path.{_≡_, refl, ap, _∙_}
-use mathlib.Core.Bool.{Bool, true, false, cond}
+use mathlib.Core.Bool.{true, false}
 use mathlib.Core.List.{List, [], _∷_, _++_}
 use Prim.Native.Nat.{ℕ, _+_, _-_, _*_, _/_, _≤_, _<_}
 use native.Mathlib.Omega.{arith}
@@ -9,7 +9,7 @@ use borrow.Author.Tests.{leb-true, leb-false, le-leb, lt-leb}
 use Rattle.types.specs.declared.Scale.{Scale}
 use Rattle.types.specs.declared.Scale.the-variants.{Scale0, Scale1, Scale2, Scale3}
 use Rattle.rules.specs.Document01.Flash.{columnOf, stepsOf, lastOf, risen, atColumn, flashOf}
-use Rattle.rules.specs.Manual.WaitStates.{Row, rows, highest, Asks, waits, asks}
+use Rattle.rules.specs.Manual.WaitStates.{Row, rows, highest, waits, asks}
 use Rattle.laws.proofs.Tests.{by-test}
 
 -- rows that end at these MHz, of latency k, k + 1, .., each with half its latency as WRHIGHFREQ

@@ -1,22 +1,19 @@
 -- Every plan is legal: demand 2, the manuals and IEEE 754.
-use mathlib.Core.Path.{_≡_, refl, subst}
+use mathlib.Core.Path.{_≡_, refl}
 use mathlib.Core.Bool.{Bool, true, false, cond}
 use Prim.Native.Nat.{ℕ}
 use native.Mathlib.Omega.{arith}
-use Rattle.types.specs.declared.PllRequest.{PllRequest}
 use Rattle.types.specs.declared.Pll.the-variants.{Idle}
 use Rattle.types.specs.declared.Request.{Request}
 use Rattle.types.specs.declared.ChipState.{ChipState}
 use Rattle.types.specs.declared.Plan.{Plan}
-use Rattle.types.specs.declared.Refusal.the-variants.{Pll1PUnlikeSystem}
 use Rattle.types.specs.declared.Answer.the-variants.{Accepted}
 use Rattle.rules.specs.Document01.Result.{Result, refused, ok}
-use Rattle.rules.specs.Document01.Request.{pllAt, limited, stated, pll1Asked, pll2Asked, sourceOf, systemOf, needsPll1, like, withP, askedOf, sourced, configured}
+use Rattle.rules.specs.Document01.Request.{sourceOf, askedOf, configured}
 use Rattle.rules.specs.Document01.OnePll.{pllOf, pllFrom}
 use Rattle.rules.specs.Document01.Plan.{pllsOf, hsiReady, systemFrom, busesOf, mcosOf, planWith, chosenPlan, answered, answerTo, plannedAt}
 use Rattle.claims.specs.Demands.Legal.{LegalPll, LegalThird, LegalPlan}
-use Rattle.laws.proofs.Tests.{by-test}
-use Rattle.rules.proofs.Document01.Results.{Holds, holds-then, holds-next, holds-tested, holds-known}
+use Rattle.rules.proofs.Document01.Results.{Holds, holds-then, holds-next, holds-known}
 use Rattle.claims.proofs.Legal.Flash.{flash-asked}
 use Rattle.claims.proofs.Legal.OnePll.{pll-legal}
 use Rattle.rules.specs.Document01.Chip.{oddAt}

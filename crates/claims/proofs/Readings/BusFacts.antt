@@ -1,16 +1,16 @@
 -- The buses, the peripheral clock and the MCOs that the rules choose: divisors of at least 1, PPREs that registers hold, and clocks that are floors.
-use mathlib.Core.Path.{_≡_, refl, sym, _∙_, ap, subst}
-use mathlib.Core.Bool.{Bool, true, false, cond, not, _&&_, _||_}
-use Prim.Native.Nat.{ℕ, _+_, _*_, _/_, _≤_, _<_}
+use mathlib.Core.Path.{_≡_, refl, sym, _∙_, ap}
+use mathlib.Core.Bool.{Bool, true, false, cond, not, _&&_}
+use Prim.Native.Nat.{ℕ, _/_, _≤_}
 use native.Mathlib.Omega.{arith}
 use lib.Dec.{leb, eqb}
 use borrow.Author.Tests.{leb-true, eqb-true}
 use Rattle.types.specs.declared.Hertz.{Hertz}
 use Rattle.types.specs.declared.Hertz.the-variants.{Unset, Hz}
 use Rattle.types.specs.declared.Refusal.the-variants.{BusZero, AhbZero, McoZero, McoRatio}
-use Rattle.rules.specs.Document01.Result.{Result, refused, ok, _>>=_, _>>_, require}
+use Rattle.rules.specs.Document01.Result.{ok}
 use Rattle.rules.specs.Document01.Hertz.{ratioOf, hertzOr, notZero}
-use Rattle.rules.specs.Document01.Buses.{apbRows, csiOrHsi, peripheralOf, hpreOf, ppreOf, hpreFor, ahbOf, ppreFor, apbOf}
+use Rattle.rules.specs.Document01.Buses.{apbRows, csiOrHsi, peripheralOf, ppreOf, hpreFor, ahbOf, ppreFor, apbOf}
 use Rattle.rules.specs.Document01.Mco.{mcoOf}
 use Rattle.rules.specs.Manual.Tree.{among}
 use Rattle.rules.proofs.Manual.Chains.{ppres}

@@ -1,6 +1,5 @@
 -- Every clock covered, from the oscillator down: its chain in the bank that the whole list leaves ends with the hertz reported.
 use mathlib.Core.Path.{_≡_, refl, sym, _∙_, ap, subst}
-use mathlib.Core.Logic.{_≢_}
 use mathlib.Core.Bool.{Bool, true, false, cond, not, _||_}
 use mathlib.Core.List.{List, [], _∷_}
 use Prim.Native.Nat.{ℕ, zero, suc, _+_, _-_, _*_, _/_, _≤_, _<_}
@@ -15,13 +14,11 @@ use Rattle.types.specs.declared.Mco2Source.{Mco2Source}
 use Rattle.types.specs.declared.Request.{Request}
 use Rattle.types.specs.declared.PllOutput.{PllOutput}
 use Rattle.types.specs.declared.PllOutput.the-variants.{Off, On}
-use Rattle.types.specs.declared.Fraction.{Fraction}
-use Rattle.types.specs.declared.Fraction.the-variants.{Whole, Part}
 use Rattle.types.specs.declared.PllSettings.{PllSettings}
 use Rattle.types.specs.declared.Pll.{Pll}
 use Rattle.types.specs.declared.Pll.the-variants.{Idle, Runs}
 use Rattle.types.specs.declared.Plan.{Plan}
-use Rattle.rules.specs.Document01.Result.{Result, refused, ok}
+use Rattle.rules.specs.Document01.Result.{ok}
 use Rattle.rules.specs.Document01.Hertz.{isSet, hertzOr}
 use Rattle.rules.specs.Document01.Request.{pllAt, sourceOf, fromHse1, fromHse2}
 use Rattle.rules.specs.Document01.OnePll.{pClock, qClock, clockOf}
@@ -31,14 +28,13 @@ use Rattle.rules.specs.Document01.Plan.{srcOf, swOf}
 use Rattle.rules.specs.Document01.Entries.{pllIn}
 use Rattle.rules.specs.Manual.Path.{PllName, pll1, pll2, pll3, Via, noPll, by, Path, pllOn}
 use Rattle.rules.specs.Manual.Tree
-use Rattle.rules.specs.Manual.Tree.{fedBy, Oscillator, off, runs, Chain, none, along, Output, P, Q, R, Clock, sys, hclk, pclk1, pclk2, pclk3, timx, timy, per, hsi, csi, hsi48, lsi, hse, mco1, mco2, output, number, divider, enable, word, pllWord, fromOscillator, switched, gated, over, among, vcoBy, timerBy, pathOf}
+use Rattle.rules.specs.Manual.Tree.{fedBy, Oscillator, off, runs, Chain, none, along, Output, P, Q, R, Clock, sys, hclk, pclk1, pclk2, pclk3, timx, timy, per, hsi, csi, hsi48, lsi, hse, mco1, mco2, output, number, divider, enable, word, pllWord, fromOscillator, switched, over, among, timerBy, pathOf}
 use Rattle.rules.proofs.Manual.Codes.{by-codes}
 use Rattle.rules.proofs.Manual.Chains.{Gives, gives-oscillator, gives-over, gives-vco, ppres, gives-timer, gives-readings, Comes, none-comes, comes-oscillator, comes-over, comes-gated, comes-vco, comes-timer}
 use Rattle.claims.specs.Demands.Report.{pllClocks, reported, outputOf, hertzOf}
 use Rattle.claims.specs.Demands.Readings.{sysVia, mco1Via, mco2Via, viaOf, started, steady, Covered, TreeReads, TwoReadings}
-use Rattle.claims.proofs.Readings.Own.{dividerWord, enableBit, fracenBit}
-use Rattle.claims.proofs.Readings.Words.{bankOf, srcWord, PllWords, pll-words, CoreWords, core-words, hseBit}
-use Rattle.claims.proofs.Readings.Consistent.{StartedInteger, Steady, steady-is, settingOf, pllHertz, GoodPll, System, source, pll1P, Peripheral, fromHsi, fromCsi, fromHse, Divided, Consistent}
+use Rattle.claims.proofs.Readings.Words.{bankOf, srcWord, PllWords, pll-words, core-words, hseBit}
+use Rattle.claims.proofs.Readings.Consistent.{StartedInteger, Steady, steady-is, settingOf, pllHertz, GoodPll, System, source, pll1P, Peripheral, fromHsi, fromCsi, fromHse, Consistent}
 
 -- ---- small facts
 less-more : (n : ℕ) → 1 ≤ n → n - 1 + 1 ≡ n

@@ -1,16 +1,16 @@
 -- What the rules settle of a plan and its clocks need: dividers of at least 1, PPREs that registers hold, and hertz that are the floors of the
 -- numbers chosen.
 use mathlib.Core.Path.{_≡_, refl, sym}
-use mathlib.Core.Bool.{Bool, true, false, not, _||_}
-use Prim.Native.Nat.{ℕ, _+_, _*_, _/_, _≤_, _<_}
+use mathlib.Core.Bool.{true, false, not, _||_}
+use Prim.Native.Nat.{ℕ, _*_, _/_, _≤_, _<_}
 use Rattle.types.specs.declared.Hertz.{Hertz}
 use Rattle.types.specs.declared.Hertz.the-variants.{Unset, Hz}
 use Rattle.types.specs.declared.Strategy.{Strategy}
 use Rattle.types.specs.declared.Strategy.the-variants.{Integer, Fractional}
 use Rattle.types.specs.declared.Request.{Request}
 use Rattle.types.specs.declared.PllOutput.{PllOutput}
-use Rattle.types.specs.declared.PllOutput.the-variants.{Off, On}
-use Rattle.types.specs.declared.Fraction.the-variants.{Whole, Part}
+use Rattle.types.specs.declared.PllOutput.the-variants.{On}
+use Rattle.types.specs.declared.Fraction.the-variants.{Whole}
 use Rattle.types.specs.declared.PllSettings.{PllSettings}
 use Rattle.types.specs.declared.Pll.{Pll}
 use Rattle.types.specs.declared.Pll.the-variants.{Idle, Runs}

@@ -1,35 +1,31 @@
 -- Every plan that the rules give is consistent, so both readings of every clock that it covers are as demand 3 says.
 use mathlib.Core.Path.{_≡_, refl, sym, _∙_, ap, subst}
 use mathlib.Core.Bool.{Bool, true, false, cond, not, _||_}
-use mathlib.Core.List.{List, [], _∷_}
-use Prim.Native.Nat.{ℕ, zero, suc, _+_, _*_, _/_, _≤_, _<_}
+use mathlib.Core.List.{List}
+use Prim.Native.Nat.{ℕ, zero, suc, _<_}
 use native.Mathlib.Omega.{arith}
 use Rattle.types.specs.declared.Hertz.{Hertz}
-use Rattle.types.specs.declared.Hertz.the-variants.{Unset, Hz}
+use Rattle.types.specs.declared.Hertz.the-variants.{Hz}
 use Rattle.types.specs.declared.Strategy.{Strategy}
-use Rattle.types.specs.declared.PllRequest.{PllRequest}
 use Rattle.types.specs.declared.Request.{Request}
 use Rattle.types.specs.declared.ChipState.{ChipState}
 use Rattle.types.specs.declared.PllSettings.{PllSettings}
 use Rattle.types.specs.declared.Pll.{Pll}
 use Rattle.types.specs.declared.Pll.the-variants.{Idle, Runs}
 use Rattle.types.specs.declared.Plan.{Plan}
-use Rattle.types.specs.declared.Answer.{Answer}
-use Rattle.types.specs.declared.Answer.the-variants.{Accepted, Refused}
-use Rattle.types.specs.declared.Planned.{Planned}
-use Rattle.types.specs.declared.Refusal.the-variants.{AboveLimit, McoHseUnstated, Pll1PUnlikeSystem, SourceZero}
-use Rattle.rules.specs.Document01.Result.{Result, refused, ok, _>>=_, _>>_, require}
+use Rattle.types.specs.declared.Refusal.the-variants.{McoHseUnstated}
+use Rattle.rules.specs.Document01.Result.{Result, refused, ok, _>>=_, _>>_}
 use Rattle.rules.specs.Document01.Hertz.{isSet, hertzOr}
-use Rattle.rules.specs.Document01.Request.{pllAt, limited, fromHse1, fromHse2, stated, pll1Asked, pll2Asked, sourceOf, systemOf, needsPll1, like, withP, sourced, configured, askedOf}
+use Rattle.rules.specs.Document01.Request.{pllAt, limited, fromHse1, fromHse2, stated, sourceOf, systemOf, needsPll1, configured, askedOf}
 use Rattle.rules.specs.Document01.OnePll.{pllOf, pClock, qClock, pllFrom}
 use Rattle.rules.specs.Document01.Buses.{peripheralOf, ahbOf, apbOf}
 use Rattle.rules.specs.Document01.Mco.{mco1Input, mco2Input, mcoOf}
-use Rattle.rules.specs.Document01.Plan.{pllsOf, hsiReady, systemFrom, busesOf, mcosOf, srcOf, swOf, planWith, chosenPlan, answered, answerTo, plannedAt, byNumber}
-use Rattle.rules.specs.Document01.Entries.{pllIn, planEntries, entriesOf}
-use Rattle.rules.specs.Document01.Bank.{applyAll, resetBank}
+use Rattle.rules.specs.Document01.Plan.{pllsOf, hsiReady, systemFrom, busesOf, mcosOf, swOf, planWith, chosenPlan, answered, answerTo, plannedAt, byNumber}
+use Rattle.rules.specs.Document01.Entries.{pllIn, entriesOf}
+use Rattle.rules.specs.Document01.Bank.{applyAll}
 use Rattle.claims.specs.Demands.Readings.{TwoReadings, Reads, BankReads}
 use Rattle.laws.proofs.Tests.{by-test}
-use Rattle.rules.proofs.Document01.Results.{bind-ok, then-ok, tested-ok, require-ok}
+use Rattle.rules.proofs.Document01.Results.{bind-ok, then-ok, tested-ok}
 use Rattle.claims.proofs.Readings.PllFacts.{pll-good, pll-p}
 use Rattle.claims.proofs.Readings.BusFacts.{GoodBus, ahb-good, GoodApb, apb-good, GoodPeripheral, atHsi, atCsi, atHse, peripheral-good, mco-good}
 use Rattle.claims.proofs.Readings.Words.{bankOf}

@@ -1,7 +1,6 @@
 -- What PLL i's own list leaves in PLL i's fields, over fields that were 0. Once, with i as a parameter.
-use mathlib.Core.Path.{_≡_, refl, sym, _∙_, ap}
+use mathlib.Core.Path.{_≡_, refl, _∙_, ap}
 use mathlib.Core.Logic.{_≢_}
-use mathlib.Core.List.{List, [], _∷_}
 use Prim.Native.Nat.{ℕ, _+_, _-_, _*_, _≤_, _<_}
 use native.Mathlib.Omega.{arith}
 use Rattle.types.specs.declared.PllOutput.{PllOutput}

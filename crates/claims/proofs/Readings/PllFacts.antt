@@ -1,20 +1,19 @@
 -- A PLL that the rules set up: M, N and the dividers are at least 1, and in Integer strategy its clocks are floors.
 use mathlib.Core.Path.{_≡_, refl, sym, _∙_, ap, subst}
 use mathlib.Core.Bool.{Bool, true, false, cond, not, _&&_, _||_}
-use mathlib.Core.List.{List, [], _∷_, _++_}
-use Prim.Native.Nat.{ℕ, _+_, _*_, _/_, _≤_, _<_, min, max}
+use mathlib.Core.List.{List, _++_}
+use Prim.Native.Nat.{ℕ, _+_, _*_, _/_, _≤_, _<_}
 use native.Mathlib.Omega.{arith}
 use lib.Dec.{leb, ltb, eqb}
-use borrow.Author.Tests.{leb-true, ltb-true, ltb-false, eqb-false, not-true}
+use borrow.Author.Tests.{leb-true, ltb-true, eqb-false, not-true}
 use Rattle.types.specs.declared.Hertz.{Hertz}
 use Rattle.types.specs.declared.Hertz.the-variants.{Unset, Hz}
 use Rattle.types.specs.declared.Strategy.{Strategy}
 use Rattle.types.specs.declared.Strategy.the-variants.{Integer, Fractional}
 use Rattle.types.specs.declared.PllRequest.{PllRequest}
-use Rattle.types.specs.declared.PllOutput.{PllOutput}
-use Rattle.types.specs.declared.PllOutput.the-variants.{Off, On}
+use Rattle.types.specs.declared.PllOutput.the-variants.{On}
 use Rattle.types.specs.declared.Fraction.{Fraction}
-use Rattle.types.specs.declared.Fraction.the-variants.{Whole, Part}
+use Rattle.types.specs.declared.Fraction.the-variants.{Whole}
 use Rattle.types.specs.declared.PllSettings.{PllSettings}
 use Rattle.types.specs.declared.Pll.{Pll}
 use Rattle.types.specs.declared.Pll.the-variants.{Idle, Runs}
@@ -22,15 +21,14 @@ use Rattle.types.specs.declared.Refusal.the-variants.{OutputZero, OutputsTooFar
 use Rattle.types.specs.declared.FoundM.{FoundM}
 use Rattle.types.specs.declared.FoundM.the-variants.{Nothing, M}
 use Rattle.rules.specs.Document01.ChoiceOfM.{chosenM}
-use Rattle.rules.specs.Document01.Target.{targetOf}
 use Rattle.rules.proofs.Document01.ChoiceOfM.{chosen-some}
 use Rattle.rules.proofs.Document01.Target.{divider-pos}
-use Rattle.rules.specs.Document01.Result.{Result, refused, ok, _>>=_, _>>_, require}
+use Rattle.rules.specs.Document01.Result.{Result, refused, ok, _>>=_, _>>_}
 use Rattle.rules.specs.Document01.Hertz.{isSet, notZero}
 use Rattle.rules.specs.Document01.OnePll.{wanted, noneZero, countedP, counted, countedOutputs, least, largest, Range, medium, wide, rangeOf, admissible, fractionOf, vcoBy, outputOf, dividerP, allowedP, spanned, rangeFor, targetFor, dividedBy, settingsOf, settled, runs, running, pllOf, clockOf, pClock, firstOf}
 use Rattle.rules.specs.Manual.Tree.{Output, P, Q, R}
 use Rattle.rules.proofs.Document01.Results.{bind-ok, then-ok, tested-ok, require-ok}
-use Rattle.laws.proofs.Tests.{and-left, and-right, either}
+use Rattle.laws.proofs.Tests.{and-left, and-right}
 use Rattle.claims.proofs.Readings.Consistent.{settingOf, GoodPll}
 
 -- ---- the least and the largest output

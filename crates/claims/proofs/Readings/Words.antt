@@ -1,8 +1,8 @@
 -- The words that the tree reads, in the bank that a plan's whole list leaves of a bank at reset values.
-use mathlib.Core.Path.{_≡_, refl, sym, _∙_, ap}
+use mathlib.Core.Path.{_≡_, refl, _∙_, ap}
 use mathlib.Core.Logic.{_≢_}
 use mathlib.Core.Bool.{Bool, true, false, cond}
-use mathlib.Core.List.{List, [], _∷_, _++_}
+use mathlib.Core.List.{List, _++_}
 use Prim.Native.Nat.{ℕ, zero, suc, _+_, _-_, _*_, _≤_, _<_}
 use native.Mathlib.Omega.{arith}
 use lib.ListN.{length, getD, List·getD-append, getD-replicate, replicate, length-replicate}
@@ -10,11 +10,10 @@ use Rattle.types.specs.declared.PllOutput.{PllOutput}
 use Rattle.types.specs.declared.PllOutput.the-variants.{Off, On}
 use Rattle.types.specs.declared.PllSettings.{PllSettings}
 use Rattle.types.specs.declared.Pll.{Pll}
-use Rattle.types.specs.declared.Pll.the-variants.{Idle, Runs}
+use Rattle.types.specs.declared.Pll.the-variants.{Runs}
 use Rattle.types.specs.declared.Hertz.{Hertz}
 use Rattle.types.specs.declared.Hertz.the-variants.{Unset, Hz}
 use Rattle.types.specs.declared.Plan.{Plan}
-use Rattle.types.specs.declared.Entry.{Entry}
 use Rattle.rules.specs.Document01.Entries.{settingEntries, setupEntries, pllIn, clockEntries, hseEntries, sourceEntries, outputStart, startEntries, busEntries, planEntries}
 use Rattle.rules.specs.Document01.Bank.{applyAll, resetBank, resetRest}
 use Rattle.rules.proofs.Document01.Last.{valAll, at-all, put-same}

@@ -8,7 +8,7 @@ use lib.Dec.{ltb, eqb}
 use Rattle.types.specs.declared.Chip.{Chip}
 use Rattle.types.specs.declared.Refusal.the-variants.{OutsideCodes, BankLength}
 use Rattle.rules.specs.Document01.Result.{ok, _>>_, require}
-use Rattle.rules.specs.Document01.Chip.{chipOf, oddAt, permission}
+use Rattle.rules.specs.Document01.Chip.{chipOf, permission}
 use Rattle.rules.specs.Document01.Plan.{Asked, chosenPlan, requestOf, planOf, bankPlanOf, answerTyped, answerTo}
 use Rattle.claims.specs.Demands.Rows.{firstThat, AsRows}
 use Rattle.claims.specs.Demands.ByPlaces.{stateOf, requestAt, partAt}

@@ -14,7 +14,6 @@ use Rattle.types.specs.declared.Hertz.{Hertz}
 use Rattle.types.specs.declared.Hertz.the-variants.{Unset, Hz}
 use Rattle.types.specs.declared.Mco1Source.{Mco1Source}
 use Rattle.types.specs.declared.Mco2Source.{Mco2Source}
-use Rattle.types.specs.declared.PllRequest.{PllRequest}
 use Rattle.types.specs.declared.Request.{Request}
 use Rattle.types.specs.declared.ChipState.{ChipState}
 use Rattle.types.specs.declared.Plan.{Plan}
@@ -26,7 +25,7 @@ use Rattle.rules.specs.Document01.Chip.{divisorOf, oddAt, hasPll}
 use Rattle.rules.specs.Document01.Result.{Result, refused, ok, _>>=_, _>>_}
 use Rattle.rules.specs.Document01.Refusals.{numberOf}
 use Rattle.rules.specs.Document01.Hertz.{isSet, hertzOr, ratioOf, notZero}
-use Rattle.rules.specs.Document01.Request.{pllAt, within, fromHse1, fromHse2, pll1Asked, sourceOf, systemOf, needsPll1, like, withP, askedOf, configured}
+use Rattle.rules.specs.Document01.Request.{within, fromHse1, fromHse2, pll1Asked, sourceOf, systemOf, needsPll1, like, askedOf, configured}
 use Rattle.rules.specs.Document01.OnePll.{pllOf, pClock, qClock, pllFrom, wanted}
 use Rattle.rules.specs.Document01.Buses.{hpreFor, ppreFor, ahbOf, apbOf}
 use Rattle.rules.specs.Document01.Mco.{mco1Input, mco2Input, mcoOf}

@@ -1,6 +1,5 @@
 -- Answers that are wrong in one place: what proofs/Unweakened shows the claims of specs/Demands to be false of.
 use mathlib.Core.Path.{_≡_, refl}
-use mathlib.Core.List.{[], _∷_}
 use Prim.Native.Nat.{ℕ}
 use Rattle.types.specs.declared.PllOutput.{PllOutput}
 use Rattle.types.specs.declared.PllOutput.the-variants.{Off, On}

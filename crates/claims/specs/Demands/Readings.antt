@@ -4,15 +4,13 @@ use mathlib.Core.Bool.{Bool, true, false, cond, _&&_}
 use mathlib.Core.List.{List}
 use Prim.Native.Nat.{ℕ}
 use lib.Dec.{eqb}
-use Rattle.types.specs.declared.Hertz.{Hertz}
-use Rattle.types.specs.declared.Hertz.the-variants.{Unset, Hz}
+use Rattle.types.specs.declared.Hertz.the-variants.{Hz}
 use Rattle.types.specs.declared.Strategy.{Strategy}
 use Rattle.types.specs.declared.Strategy.the-variants.{Integer, Fractional}
 use Rattle.types.specs.declared.Mco1Source.{Mco1Source}
 use Rattle.types.specs.declared.Mco2Source.{Mco2Source}
 use Rattle.types.specs.declared.Request.{Request}
 use Rattle.types.specs.declared.Plan.{Plan}
-use Rattle.types.specs.declared.Answer.{Answer}
 use Rattle.types.specs.declared.Answer.the-variants.{Accepted}
 use Rattle.types.specs.declared.Planned.{Planned}
 use Rattle.rules.specs.Document01.Hertz.{isSet}
@@ -20,8 +18,8 @@ use Rattle.rules.specs.Document01.Request.{pllAt}
 use Rattle.rules.specs.Document01.Entries.{entriesOf}
 use Rattle.rules.specs.Document01.Bank.{applyAll, resetBank}
 use Rattle.claims.specs.Demands.Report.{reported, hertzOf}
-use Rattle.rules.specs.Manual.Path.{PllName, pll1, pll2, pll3, Via, noPll, by, Path, pllOn, Readings}
-use Rattle.rules.specs.Manual.Tree.{Oscillator, fedBy, Chain, along, Output, P, Q, R, Clock, sys, hclk, pclk1, pclk2, pclk3, timx, timy, per, hsi, csi, hsi48, lsi, hse, mco1, mco2, output, number, pathOf}
+use Rattle.rules.specs.Manual.Path.{PllName, pll1, pll2, Via, noPll, by, Path, pllOn, Readings}
+use Rattle.rules.specs.Manual.Tree.{Oscillator, fedBy, along, P, Clock, sys, hclk, pclk1, pclk2, pclk3, timx, timy, per, hsi, csi, hsi48, lsi, hse, mco1, mco2, output, number, pathOf}
 
 -- ---- the clocks covered, by the request and the plan; nothing here looks at a bank
 -- the system clock comes from PLL1 where the plan says SW 3

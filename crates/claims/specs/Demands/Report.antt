@@ -1,5 +1,4 @@
 -- What a plan reports: the same clocks as Rcc::freeze, in the form of core_clocks.rs.
-use Prim.Native.Nat.{ℕ}
 use Rattle.types.specs.declared.Hertz.{Hertz}
 use Rattle.types.specs.declared.Hertz.the-variants.{Hz}
 use Rattle.types.specs.declared.Pll.{Pll}

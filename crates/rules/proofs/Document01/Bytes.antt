@@ -16,7 +16,7 @@ use Rattle.types.specs.declared.Mco1Source.{Mco1Source}
 use Rattle.types.specs.declared.Mco2Source.{Mco2Source}
 use Rattle.types.specs.declared.PllRequest.{PllRequest}
 use Rattle.rules.specs.Document01.Result as Result
-use Rattle.rules.specs.Document01.Result.{Result, refused, ok}
+use Rattle.rules.specs.Document01.Result.{Result, ok}
 use Rattle.rules.specs.Document01.Mco.{mco1Code, mco2Code}
 use Rattle.rules.proofs.Document01.Results.{ok-same, not-ok, bind-ok}
 use Rattle.rules.specs.Document01.Bytes.{Read, Reader, _>>=_, return, byte, code, u32le, setTo, hertz, flag, mco1Sources, mco1Source, mco2Sources, mco2Source, strategy, pllPart, thirdPart, u32leBytes, hertzBytes, flagByte, strategyCode, pllBytes, thirdBytes, AllBytes, Hertz32, Pll32, Third}

@@ -1,7 +1,7 @@
 -- N: from 75 to 420 with the medium VCO and from 8 to 280 with the wide one, by the ranges of target and reference. So refusal 12 fits nothing.
 use mathlib.Core.Path.{_≡_, refl, subst}
-use mathlib.Core.Logic.{_⊎_, inl, inr, ⊎-elim}
-use mathlib.Core.Bool.{Bool, true, false, _&&_, _||_}
+use mathlib.Core.Logic.{_⊎_, inl, inr}
+use mathlib.Core.Bool.{Bool, true, _&&_}
 use Prim.Native.Nat.{ℕ, _/_, _≤_}
 use native.Mathlib.Omega.{arith}
 use lib.Dec.{leb, ltb}
@@ -10,17 +10,16 @@ use Rattle.types.specs.declared.PllRequest.{PllRequest}
 use Rattle.types.specs.declared.PllSettings.{PllSettings}
 use Rattle.types.specs.declared.Pll.{Pll}
 use Rattle.types.specs.declared.Pll.the-variants.{Idle, Runs}
-use Rattle.types.specs.declared.Fraction.{Fraction}
 use Rattle.types.specs.declared.FoundM.{FoundM}
 use Rattle.types.specs.declared.FoundM.the-variants.{Nothing, M}
 use Rattle.types.specs.declared.Refusal.the-variants.{NOutside}
 use Rattle.rules.specs.Document01.Result.{Result, refused, ok, _>>=_, _>>_, require}
 use Rattle.rules.specs.Document01.ChoiceOfM.{chosenM, Admissible}
-use Rattle.rules.specs.Document01.OnePll.{wanted, noneZero, countedOutputs, largest, Range, medium, wide, rangeOf, admissible, firstOf, fractionOf, dividerP, allowedP, spanned, rangeFor, targetFor, dividedBy, settingsOf, settled, runs, running, pllOf}
+use Rattle.rules.specs.Document01.OnePll.{wanted, countedOutputs, largest, Range, medium, wide, rangeOf, admissible, firstOf, fractionOf, dividerP, allowedP, spanned, rangeFor, targetFor, dividedBy, settled, runs, running, pllOf}
 use Rattle.laws.proofs.Tests.{by-test, and-left, and-right}
 use Rattle.rules.proofs.Document01.ChoiceOfM.{admits, chosen-some}
 use Rattle.rules.proofs.Document01.Target.{n-between}
-use Rattle.rules.proofs.Document01.Results.{Holds, holds-then, holds-next, holds-tested}
+use Rattle.rules.proofs.Document01.Results.{Holds, holds-then, holds-next}
 
 -- a range is medium or wide
 pub range-kind : (top : ℕ) → (rangeOf top ≡ medium) ⊎ (rangeOf top ≡ wide)

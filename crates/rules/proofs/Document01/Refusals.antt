@@ -31,7 +31,7 @@ use Rattle.rules.specs.Document01.Chip.{divisorOf, oddAt, hasPll}
 use Rattle.rules.specs.Document01.Result.{Result, refused, ok, _>>=_, _>>_, require}
 use Rattle.rules.specs.Document01.Refusals.{numberOf, refusalOf, typedNumbers}
 use Rattle.rules.specs.Document01.Hertz.{isSet, notZero, ratioOf}
-use Rattle.rules.specs.Document01.Request.{pllAt, within, limited, fromHse1, fromHse2, stated, pll1Asked, pll2Asked, sourceOf, systemOf, needsPll1, like, sourced, systemFits, configured, askedOf}
+use Rattle.rules.specs.Document01.Request.{within, limited, fromHse1, fromHse2, stated, pll1Asked, sourceOf, systemOf, needsPll1, like, systemFits, configured, askedOf}
 use Rattle.rules.specs.Document01.ChoiceOfM.{chosenM}
 use Rattle.rules.specs.Document01.OnePll.{wanted, noneZero, countedOutputs, least, largest, Range, admissible, firstOf, taken, fractionOf, dividerP, allowedP, spanned, rangeFor, targetFor, dividedBy, settingsOf, settled, runs, running, pllOf, pClock, qClock, pllFrom}
 use Rattle.rules.specs.Document01.Buses.{hpreFor, ppreFor, ahbOf, apbOf}

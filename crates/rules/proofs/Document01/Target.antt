@@ -1,15 +1,15 @@
 -- Laws of the VCO's target: it is at most the range's end, every output from min to max has a divider from 1 to 128, and N lies in its range.
-use mathlib.Core.Path.{_≡_, refl, sym, ap, _∙_, subst}
-use Prim.Native.Nat.{ℕ, zero, suc, _+_, _-_, _*_, _/_, _≤_, _<_}
-use mathlib.Core.Bool.{Bool, true, false}
+use mathlib.Core.Path.{_≡_, subst}
+use Prim.Native.Nat.{ℕ, _+_, _-_, _*_, _/_, _≤_, _<_}
+use mathlib.Core.Bool.{true}
 use mathlib.Core.Logic.{_⊎_, inl, inr, ⊎-elim}
 use native.Mathlib.Omega.{arith}
-use native.Mathlib.Nat.{le-trans, le-of-lt, lt-of-le-of-lt, mul-le-mul-left, mul-le-mul-right, le-div-iff-mul-le, div-lt-iff-lt-mul, mul-div-le, div-mul-le-self, div-le-self, div-le-of-le-mul, div-div-eq-div-mul, mul-comm}
+use native.Mathlib.Nat.{le-trans, le-of-lt, mul-le-mul-left, mul-le-mul-right, div-lt-iff-lt-mul, mul-div-le, div-le-self}
 use lib.Dec.{ltb, leb}
 use borrow.Author.Tests.{ltb-true, ltb-false, leb-true, leb-false, lt-ltb, le-ltb}
 use Rattle.rules.specs.Document01.ChoiceOfM.{inRange}
 use Rattle.rules.specs.Document01.Target.{ceil128, topOf, targetOf}
-use Rattle.laws.proofs.Numbers.{div-pos, div-anti, div-mono, div-swap, div-between, le-div, div-le}
+use Rattle.laws.proofs.Numbers.{div-pos, div-anti, div-swap, div-between, le-div, div-le}
 use Rattle.rules.proofs.Document01.ChoiceOfM.{range-low, range-high}
 use Rattle.laws.proofs.Tests.{tested}
 

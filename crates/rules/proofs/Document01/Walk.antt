@@ -12,11 +12,10 @@ use Rattle.types.specs.declared.Entry.{Entry}
 use Rattle.types.specs.declared.Entry.the-variants.{Set, Set2, Set3, Set4, Wait, Wait2, Check, Read}
 use Rattle.types.specs.declared.Refusal.{Refusal}
 use Rattle.types.specs.declared.Refusal.the-variants.{CsiDown}
-use Rattle.types.specs.declared.Shown.{Shown}
 use Rattle.types.specs.declared.Shown.the-variants.{Next, Finished, Stopped}
 use Rattle.rules.specs.Document01.Fields
-use Rattle.rules.specs.Document01.Walk.{Stand, before, ended, shownOf, passes, isCheck, steppedBy, steppedOf, voltageFresh, voltageStepped}
-use Rattle.rules.specs.Stated.Walks.{Pair, after, shows, isWait, Always, Through, entryIn, once, Satisfy}
+use Rattle.rules.specs.Document01.Walk.{Stand, before, ended, passes, isCheck, steppedBy, steppedOf, voltageFresh, voltageStepped}
+use Rattle.rules.specs.Stated.Walks.{Pair, after, shows, isWait, Always, Through, once, Satisfy}
 
 -- ---- after finished or a refusal, a step changes nothing, and the same is shown
 pub stays-finished : (a b : ℕ) → steppedOf (before []) a b ≡ before []

@@ -1,8 +1,8 @@
 -- What a chain ends with, step by step down the tree.
-use mathlib.Core.Path.{_≡_, refl, sym, _∙_, ap, subst}
+use mathlib.Core.Path.{_≡_, refl, sym, _∙_, ap}
 use mathlib.Core.Bool.{true}
 use mathlib.Core.List.{List, [], _∷_}
-use Prim.Native.Nat.{ℕ, zero, suc, _+_, _*_, _/_, _≤_, _<_}
+use Prim.Native.Nat.{ℕ, zero, suc, _*_, _/_, _≤_}
 use native.Mathlib.Omega.{arith}
 use Rattle.rules.specs.Document01.Buses.{timerOf}
 use Rattle.rules.specs.Manual.Path.{PllName, whole, part, Path, direct, through, Via, noPll, by, pllOn, floored, extend, Readings}

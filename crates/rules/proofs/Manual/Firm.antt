@@ -1,14 +1,14 @@
 -- Every path that the tree gives, from any bank, has no divisor of 0, so the laws of paths hold of it.
-use mathlib.Core.Path.{_≡_, refl, sym, _∙_, ap, subst}
+use mathlib.Core.Path.{_≡_, refl, subst}
 use mathlib.Core.List.{List, [], _∷_}
-use Prim.Native.Nat.{ℕ, zero, suc, _+_, _*_, _/_, _≤_, _<_}
+use Prim.Native.Nat.{ℕ, zero, suc, _+_, _/_, _≤_}
 use native.Mathlib.Omega.{arith}
 use lib.ListN.{getD}
-use Rattle.rules.specs.Manual.Path.{PllName, pll1, pll2, pll3, whole, part, Path, direct, through, Via, noPll, by, pllOn, floored, extend, Readings}
+use Rattle.rules.specs.Manual.Path.{PllName, pll1, pll2, whole, part, Path, direct, through, floored, extend, Readings}
 use Rattle.rules.specs.Manual.Tree
-use Rattle.rules.specs.Manual.Tree.{Chain, none, along, Oscillator, off, runs, Output, P, Q, R, Clock, sys, hclk, pclk1, pclk2, pclk3, timx, timy, per, hsi, csi, hsi48, lsi, hse, mco1, mco2, output, fromOscillator, gated, over, vcoBy, timerBy, word, pllWord, divider, enable, pathOf}
+use Rattle.rules.specs.Manual.Tree.{Chain, none, along, Oscillator, off, runs, Output, P, Q, Clock, sys, hclk, pclk1, pclk2, pclk3, timx, timy, per, hsi, csi, hsi48, lsi, hse, mco1, mco2, output, fromOscillator, gated, over, vcoBy, timerBy, word, pllWord, divider, enable, pathOf}
 use Rattle.rules.proofs.Manual.Codes.{by-timer}
-use Rattle.rules.proofs.Manual.Paths.{Sound, floored-extend, sound-extend, readings-of}
+use Rattle.rules.proofs.Manual.Paths.{Sound, sound-extend, readings-of}
 
 -- no divisor of 0 on a chain's path
 pub record Firm (c : Chain) : Type 0 where

@@ -2,8 +2,8 @@
 use mathlib.Core.Path.{_≡_, refl, sym, _∙_, ap, subst}
 use mathlib.Core.Logic.{_≢_}
 use mathlib.Core.List.{List, [], _∷_, _++_}
-use Prim.Native.Nat.{ℕ, zero, suc, _+_, _-_, _*_, _/_, _%_, _≤_, _<_}
-use native.Mathlib.Nat.{div-one, div-div-eq-div-mul, div-add-mod', mod-lt, div-mul-le-self, mul-le-mul-right, mul-lt-mul-of-pos-right, le-of-mul-le-mul-right, mul-assoc, mul-comm, mul-right-comm, mul-one, le-trans, lt-of-le-of-lt, le-of-lt}
+use Prim.Native.Nat.{ℕ, _+_, _-_, _*_, _/_, _%_, _≤_, _<_}
+use native.Mathlib.Nat.{div-one, div-div-eq-div-mul, mul-le-mul-right, mul-lt-mul-of-pos-right, le-of-mul-le-mul-right, mul-assoc, mul-comm, mul-right-comm, mul-one, le-trans, lt-of-le-of-lt, le-of-lt}
 use native.Mathlib.Omega.{arith}
 use Rattle.laws.proofs.Numbers.{mul-pos, below, above, no-loss, no-rest, turn}
 use Rattle.rules.specs.Manual.Path.{Multiplier, whole, part, Path, direct, through, product, num, den, floors, floored, Evenly, NoRemainder, Near, extend, Readings}

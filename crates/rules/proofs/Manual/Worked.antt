@@ -1,7 +1,7 @@
 -- Two banks worked through: every clock's path.
 use mathlib.Core.Path.{_≡_, refl}
 use mathlib.Core.List.{List, [], _∷_, _++_, map}
-use Prim.Native.Nat.{ℕ, _+_, _*_}
+use Prim.Native.Nat.{ℕ, _+_}
 use lib.ListN.{replicate}
 use Rattle.rules.specs.Manual.Path.{pll1, pll2, pll3, whole, part, Path, direct, through}
 use Rattle.rules.specs.Manual.Tree

@@ -8,7 +8,7 @@ use Rattle.types.specs.declared.Entry.{Entry}
 use Rattle.types.specs.declared.Entry.the-variants.{Set, Set2, Set3, Set4, Wait, Wait2, Check, Read}
 use Rattle.types.specs.declared.Hertz.the-variants.{Unset, Hz}
 use Rattle.types.specs.declared.PllOutput.the-variants.{Off, On}
-use Rattle.types.specs.declared.Fraction.the-variants.{Whole, Part}
+use Rattle.types.specs.declared.Fraction.the-variants.{Part}
 use Rattle.types.specs.declared.PllSettings.{PllSettings}
 use Rattle.types.specs.declared.Waits.{Waits}
 use Rattle.types.specs.declared.Selectors.{Selectors}

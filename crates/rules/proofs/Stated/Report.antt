@@ -6,7 +6,6 @@ use Prim.Native.Nat.{ℕ}
 use lib.ListN.{replicate}
 use Rattle.types.specs.declared.Hertz.{Hertz}
 use Rattle.types.specs.declared.Hertz.the-variants.{Unset, Hz}
-use Rattle.types.specs.declared.Plan.{Plan}
 use Rattle.rules.specs.Document01.Plan.{answerTo, blankPlan}
 use Rattle.rules.specs.Document01.Entries.{bit}
 use Rattle.rules.specs.Words.{reportWords}

@@ -1,7 +1,7 @@
 -- Document 01, refusal 1, for the numbers beside a request: PLL count 2 or 3, odd-P permissions and HSION 0 or 1, voltage scale 0 to 3,
 -- HSIDIV 1, 2, 4, 8. All three permissions are judged on either chip.
 use mathlib.Core.Bool.{Bool, false, cond, _&&_, _||_}
-use mathlib.Core.List.{List, [], _∷_}
+use mathlib.Core.List.{[], _∷_}
 use Prim.Native.Nat.{ℕ}
 use lib.Dec.{eqb, ltb}
 use lib.ListN.{getD}

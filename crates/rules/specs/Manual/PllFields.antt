@@ -3,7 +3,7 @@
 -- Who can cause which refusal) and pll.rs has. With a manual, compare PLLxRGE, PLLxVCOSEL and PLLxM in RCC_PLLxCFGR, PLLxN, PLLxP, PLLxQ and PLLxR in
 -- RCC_PLLxDIVR, PLLxFRACN in RCC_PLLxFRACR.
 use mathlib.Core.Bool.{Bool, _&&_, _||_}
-use mathlib.Core.List.{List, [], _∷_}
+use mathlib.Core.List.{[], _∷_}
 use Prim.Native.Nat.{ℕ, _+_, _*_, _%_, _≤_}
 use lib.Dec.{leb, eqb}
 use lib.ListN.{getD}
