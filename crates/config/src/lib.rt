@@ -7,8 +7,6 @@ ghost use Rattle.config.specs.Config.{settledBy};
 ghost use Rattle.rules.specs.Document01.Request.{configured};
 use types::Answer;
 use types::Hertz;
-use types::Mco1Source;
-use types::Mco2Source;
 use types::PllRequest;
 use types::Refusal;
 use types::Request;

@@ -1,7 +1,6 @@
 // A plan's page: every reported clock, the PLLs, the wait states; then what else is asked for.
 ghost use Prim.Native.Nat.{_<_};
 use types::Hertz;
-use types::Plan;
 use types::Planned;
 use types::Pll;
 

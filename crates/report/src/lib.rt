@@ -2,7 +2,6 @@
 ghost use mathlib.Core.Path.{_≡_};
 ghost use Prim.Native.Nat.{_<_};
 ghost use mathlib.Core.List.{[], _∷_};
-ghost use lib.ListN.{getD};
 ghost use Rattle.rules.specs.Document01.OnePll.{clockOf};
 ghost use Rattle.rules.specs.Words.{storedFrom, hertzWords, reportWords};
 ghost use Rattle.rules.specs.Document01.OnePll.{pllFrom};

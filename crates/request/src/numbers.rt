@@ -1,7 +1,7 @@
 // The chip's numbers: judged, and taken.
 ghost use mathlib.Core.Path.{_≡_};
 ghost use mathlib.Core.Bool.{_||_};
-ghost use lib.Dec.{eqb, ltb};
+ghost use lib.Dec.{eqb};
 ghost use Rattle.rules.specs.Document01.Chip.{isHsidiv, hsidivOf, scaleOf};
 ghost use Rattle.request.specs.Chips.{chipOk, oddsOk};
 ghost use Rattle.claims.specs.Demands.ByPlaces.{stateOf};

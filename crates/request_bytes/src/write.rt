@@ -5,7 +5,7 @@ ghost use mathlib.Core.List.{_∷_};
 ghost use Prim.Native.Nat.{_+_, _≤_};
 ghost use lib.ListN.{length};
 ghost use Rattle.rules.specs.Document01.Mco.{mco1Code, mco2Code};
-ghost use Rattle.rules.specs.Document01.Bytes.{u32leBytes, hertzBytes, flagByte, strategyCode, pllBytes, thirdBytes, sizeOf};
+ghost use Rattle.rules.specs.Document01.Bytes.{u32leBytes, hertzBytes, flagByte, strategyCode, pllBytes, sizeOf};
 ghost use Rattle.request_bytes.specs.Writing.{isWritten, Stored, threeBytes, clocksBytes, outputsBytes, pllsBytes};
 ghost use Rattle.rules.specs.Document01.Bytes.{isUnset, isInteger, isNoPart};
 use types::Hertz;

@@ -1,6 +1,5 @@
 // Entries and what a walk shows as nine words each, and storing them: docs/CODES.md, Entries as words.
 ghost use mathlib.Core.Path.{_≡_};
-ghost use lib.ListN.{getD};
 ghost use mathlib.Core.List.{[], _∷_};
 ghost use Rattle.rules.specs.Words.{fieldWord, entryWords, shownWords, storedAt, shownCount};
 use types::Entry;
