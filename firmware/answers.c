@@ -404,7 +404,7 @@ static uint32_t ask(const uint8_t *request, uint32_t length, const uint8_t *chip
     if (answered(AT_clock_entries, &list, CLOCK_LIST) != code) wrong++;
     if (code == 0) measure(AT_clock_entries);
     entries = code == 0 ? first(&list)[0] : 0;
-    if (entries > 69) return wrong++, code;
+    if (entries > CLOCK_LIST / CLOCK_ENTRY) return wrong++, code;
     for (uint32_t k = GUARD + 1 + 9 * entries; k < GUARD + CLOCK_LIST; k++) wrong += code == 0 && list.all[k] != pattern(k);
     if (answered(AT_clock_bank, &bank, CLOCK_BANK) != code) wrong++;
     if (code == 0) measure(AT_clock_bank);

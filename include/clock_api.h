@@ -41,7 +41,7 @@ extern "C" {
 uint32_t clock_plan(const uint8_t *request, uint64_t request_length, const uint8_t *chip, uint64_t chip_length, uint32_t *report,
                     uint64_t report_length);
 
-/* Plans a request; its register entries are stored in `list`, of 622 words: the count, then the entries in order, nine words each. The kind
+/* Plans a request; its register entries are stored in `list`, of CLOCK_LIST words: the count, then the entries in order, nine words each. The kind
  * of an entry is 1 set, 2 wait or 3 check. The words after the last entry stay as they were.
  * Returns as clock_plan does. A refused call leaves `list` as it was. */
 uint32_t clock_entries(const uint8_t *request, uint64_t request_length, const uint8_t *chip, uint64_t chip_length, uint32_t *list,

@@ -6,10 +6,14 @@ ghost use lib.ListN.{length};
 ghost use Rattle.rules.specs.Document01.Entries.{entriesOf};
 ghost use Rattle.rules.specs.Document01.Bank.{applyAll};
 ghost use Rattle.rules.specs.Document01.Refusals.{codeOf};
+ghost use Rattle.rules.specs.Words.{listLength};
 ghost use Rattle.chip_bytes.specs.Calls.{askedOf, bankAsked};
 ghost use Rattle.clock_api.specs.Calls.{reportBy, listBy};
 use types::Answer;
 use types::Planned;
+
+// Words of a list, with room for 69 entries.
+const LIST: usize = 1 + 9 * 69;
 
 mod both;
 mod one_pll;
@@ -40,13 +44,13 @@ fn report_by(x: Planned, report: &mut [u32]) -> u32
     }
 }
 
-// A plan's register entries, in 622 words.
+// A plan's register entries: the count, and nine words for each.
 #[no_mangle]
 pub extern "C" fn clock_entries(request: &[u8], chip: &[u8], list: &mut [u32]) -> u32
-    ensures code { λ r. ⌜ r ≡ codeOf (askedOf (now (request .entry)) (now (chip .entry)) (eqb (length (now (list .entry))) 622) .answer) ⌝ }
-    ensures list { λ r. ⌜ now (list .exit) ≡ listBy (askedOf (now (request .entry)) (now (chip .entry)) (eqb (length (now (list .entry))) 622) .answer) (askedOf (now (request .entry)) (now (chip .entry)) (eqb (length (now (list .entry))) 622)) (now (list .entry)) ⌝ }
+    ensures code { λ r. ⌜ r ≡ codeOf (askedOf (now (request .entry)) (now (chip .entry)) (eqb (length (now (list .entry))) listLength) .answer) ⌝ }
+    ensures list { λ r. ⌜ now (list .exit) ≡ listBy (askedOf (now (request .entry)) (now (chip .entry)) (eqb (length (now (list .entry))) listLength) .answer) (askedOf (now (request .entry)) (now (chip .entry)) (eqb (length (now (list .entry))) listLength)) (now (list .entry)) ⌝ }
 {
-    let x = chip_bytes::plan(request, chip, list.len() == 622);
+    let x = chip_bytes::plan(request, chip, list.len() == LIST);
     list_by(x, list)
 }
 

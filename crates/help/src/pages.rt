@@ -23,7 +23,7 @@ In a call of the library these give it too: a request that is not 90 bytes
 long with two PLLs or 106 with three, so a PLL3 part on a chip with two; an
 unset clock whose four bytes are not 0; a bypass, strategy or set byte above
 1; an MCO1 source above 4 or an MCO2 source above 5; a chip that is not 7
-bytes, a report that is not 55 words, a list that is not 622 words.
+bytes, a report that is not 55 words, a list of another length.
 docs/CODES.md has the whole form.
 ",
     );

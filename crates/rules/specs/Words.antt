@@ -14,7 +14,7 @@ use Rattle.types.specs.declared.Plan.{Plan}
 use Rattle.rules.specs.Document01.Refusals.{numberOf}
 use Rattle.rules.specs.Document01.Hertz.{isSet, hertzOr}
 use Rattle.rules.specs.Document01.OnePll.{pClock, qClock, rClock}
-use Rattle.rules.specs.Document01.Entries.{bit, pllIn}
+use Rattle.rules.specs.Document01.Entries.{bit, pllIn, most}
 use Rattle.rules.specs.Document01.Walk.{Stand, shownOf}
 
 -- a field of the bank, from 1; 0 for none
@@ -90,7 +90,10 @@ reportWords p =
     (pllWords (pllIn p 0) (pllWords (pllIn p 1) (pllWords (pllIn p 2)
     (p .buses .apb1 .pre ∷ p .buses .apb2 .pre ∷ p .buses .apb3 .pre ∷ []))))))))
 
--- ---- a list of entries: 622 words, the count and then nine words for each of at most 69 entries
+-- ---- a list of entries: the count, and then nine words for each of at most so many entries
+abbrev pub listLength : ℕ
+listLength = 1 + 9 * most
+
 -- each entry's nine words, one after the other from a place on
 abbrev pub listedFrom : List ℕ → (at : ℕ) → List Entry → List ℕ
 listedFrom b at [] = b

@@ -1,4 +1,4 @@
--- What stands at a place of a list: the entry there, what is left from there, and that a place with an entry is below 69.
+-- What stands at a place of a list: the entry there, what is left from there, and that a place with an entry is below the most that a list has.
 use mathlib.Core.Path.{_≡_, refl, _∙_, sym, ap}
 use mathlib.Core.Bool.{Bool, true, false, cond}
 use mathlib.Core.List.{List, [], _∷_}
@@ -13,7 +13,7 @@ use Rattle.types.specs.declared.Answer.{Answer}
 use Rattle.types.specs.declared.Answer.the-variants.{Accepted, Refused}
 use Rattle.types.specs.declared.Shown.{Shown}
 use Rattle.types.specs.declared.Shown.the-variants.{Next, Finished, Stopped}
-use Rattle.rules.specs.Document01.Entries.{entriesOf}
+use Rattle.rules.specs.Document01.Entries.{entriesOf, most}
 use Rattle.rules.specs.Document01.Walk.{before, shownOf, passes, isCheck}
 use Rattle.rules.proofs.Document01.Length.{at-most}
 use Rattle.entries.specs.declared.EntryAt.{EntryAt}
@@ -62,7 +62,7 @@ standing true a es k e h = absurd (let z : _≡_ {A = ℕ} 0 1 = cc in omega ari
 standing false Accepted es k e h = below es k e h
 standing false (Refused n) es k e h = absurd (let z : _≡_ {A = ℕ} 0 1 = cc in omega arith)
 
-pub fits : (w : Walk) (e : Entry) → shownOf (standOf w) ≡ Next e → w .at < 69
+pub fits : (w : Walk) (e : Entry) → shownOf (standOf w) ≡ Next e → w .at < most
 unfolding standOf
 fits w e h =
     let b = standing (w .down) (w .planned .answer) (entriesOf (w .planned)) (w .at) e h in
@@ -118,7 +118,7 @@ module _ (w : Walk) (a b : ℕ) where
   still false true h g e = absurd (g refl)
   still false false h g e = ap here e
 
-  pub marked-fits : (s : Shown) → s ≡ shownOf (standOf w) → markShown s a b ≡ 1 → w .at < 69
+  pub marked-fits : (s : Shown) → s ≡ shownOf (standOf w) → markShown s a b ≡ 1 → w .at < most
   marked-fits (Next e) q h = fits w e (sym q)
   marked-fits Finished q h = absurd (omega arith)
   marked-fits (Stopped n) q h = absurd (omega arith)

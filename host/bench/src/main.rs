@@ -104,7 +104,7 @@ fn table(chip: &Chip, quiet: &Quiet, rounds: u32) {
         ("to_bytes, clock_plan_bank: the same", both),
         ("clock_plan alone: clocks, in 55 words", plan),
         ("clock_bank alone: registers, in 82 words", store),
-        ("clock_entries alone: the list, in 622 words", entries),
+        ("clock_entries alone: the list, entry by entry", entries),
         ("to_bytes alone: the bytes that a call takes", bytes),
     ] {
         println!("  {name:<54}{time:>10.1}{:>13.2}", time / freeze);

@@ -132,7 +132,7 @@ impl fmt::Debug for Entry {
     }
 }
 
-/// A plan's whole list, at most 69 entries.
+/// A plan's whole list.
 #[derive(Clone)]
 pub struct Entries {
     list: [u32; raw::LIST],

@@ -31,8 +31,11 @@ mod c {
 
 /// Words of a report: 26 clocks as (0 or 1, hertz), then PPRE1 to PPRE3.
 pub const REPORT: usize = 55;
-/// Words of a list: the count, then nine words for each of up to 69 entries.
-pub const LIST: usize = 622;
+/// Entries of a plan, at least and at most.
+pub const FEWEST: usize = 21;
+pub const MOST: usize = 69;
+/// Words of a list: the count, then nine words for each entry.
+pub const LIST: usize = 1 + 9 * MOST;
 /// Words of a bank.
 pub const BANK: usize = 82;
 /// Bytes of a chip.

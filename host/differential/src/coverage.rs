@@ -1,6 +1,6 @@
 //! What the run must have met: a comparison that never came to a rule says nothing about it.
 use crate::judge::Chip;
-use clock_api::{Bank, REFUSALS};
+use clock_api::{raw, Bank, REFUSALS};
 use hal::{at, Asked, Nine, Record};
 use std::collections::BTreeMap;
 
@@ -52,7 +52,7 @@ impl Coverage {
                 self.met(format!("PLL{} in Fractional for {}", pll + 1, OUTPUTS[first]));
             }
         }
-        if let 21 | 69 = entries {
+        if [raw::FEWEST, raw::MOST].contains(&entries) {
             self.met(format!("{entries} entries"));
         }
         if asked.hertz[at::HSE].is_none() {
@@ -100,7 +100,8 @@ impl Coverage {
         wanted.extend((1..=3).flat_map(|pll| OUTPUTS.map(|output| often(format!("PLL{pll} in Fractional for {output}")))));
         wanted.extend(hal::VARIANTS.iter().map(|v| often(variant(v.plls, &v.odd))));
         wanted.extend(["RDY1 late", "RDY2 late", "from HSI", "clock_pll", "by no setter"].map(|what| often(what.into())));
-        wanted.extend(["21 entries", "69 entries", "divider 257"].map(|what| (what.into(), 1)));
+        wanted.extend([raw::FEWEST, raw::MOST].map(|entries| (format!("{entries} entries"), 1)));
+        wanted.push(("divider 257".into(), 1));
         let times = |what: &String| self.0.get(what).copied().unwrap_or(0);
         let lacking = wanted.iter().filter(|(what, least)| times(what) < *least);
         lacking.map(|(what, least)| format!("{what}: {} times, and not {least}", times(what))).collect()

@@ -98,7 +98,7 @@ impl Case {
         }
     }
 
-    /// Requests for what is rare: the shortest list, the longest (69 entries), and a divider of P of 257, which the sources write as 0.
+    /// Requests for what is rare: the shortest list, the longest, and a divider of P of 257, which the sources write as 0.
     pub fn fixed() -> [Case; 3] {
         let shortest = Asked::default();
         let mut longest = Asked { codes: [0, 0, 0, 1, 1, 1], ..shortest };

@@ -20,7 +20,7 @@ use Rattle.types.specs.declared.Planned.{Planned}
 use Rattle.rules.specs.Document01.Result.{ok}
 use Rattle.rules.specs.Document01.Bytes.{requestBytes}
 use Rattle.rules.specs.Document01.Plan.{Asked, requestOf, planOf}
-use Rattle.rules.specs.Document01.Entries.{entriesOf}
+use Rattle.rules.specs.Document01.Entries.{entriesOf, fewest, most}
 use Rattle.rules.specs.Document01.Bank.{resetBank}
 use Rattle.rules.specs.Manual.Tree.{sys}
 use Rattle.rules.specs.Stated.Applied.{Applied}
@@ -57,12 +57,12 @@ pub not-blank : Answered planNumbers (record { answer = Refused AboveLimit; plan
 unfolding byRules
 not-blank h = let z : _≡_ {A = ℕ} 250_000_000 0 = ap (λ (p : Plan). p .clocks .sys) (h .blank AboveLimit refl) in omega arith
 
--- fewer than 21 entries, or more than 69. No plan has them, so the claim itself is taken at its word
-pub from-21 : (ns : List ℕ) (x : Planned) → Answered ns x → x .answer ≡ Accepted → 21 ≤ length (entriesOf x)
-from-21 ns x h e = h .plan e .0
+-- fewer entries than `fewest`, or more than `most`. No plan has them, so the claim itself is taken at its word
+pub from-fewest : (ns : List ℕ) (x : Planned) → Answered ns x → x .answer ≡ Accepted → fewest ≤ length (entriesOf x)
+from-fewest ns x h e = h .plan e .0
 
-pub to-69 : (ns : List ℕ) (x : Planned) → Answered ns x → x .answer ≡ Accepted → length (entriesOf x) ≤ 69
-to-69 ns x h e = h .plan e .1
+pub to-most : (ns : List ℕ) (x : Planned) → Answered ns x → x .answer ≡ Accepted → length (entriesOf x) ≤ most
+to-most ns x h e = h .plan e .1
 
 -- both are reached: a request for nothing, and HSE 24,000,000 with P 12,288,000, Q 6,144,000, R 3,072,000 of three PLLs in Fractional strategy
 abbrev every : PllRequest
@@ -71,7 +71,7 @@ every = record { strategy = Fractional; p = Hz 12_288_000; q = Hz 6_144_000; r =
 abbrev all : Request
 all = plls3 (Hz 24_000_000) Unset every every every
 
-pub shortest-and-longest : length (entriesOf (planOf (requestBytes false nothing) (chip 2 1))) ∷ length (entriesOf (planOf (requestBytes true all) (chip 3 1))) ∷ [] ≡ 21 ∷ 69 ∷ []
+pub shortest-and-longest : length (entriesOf (planOf (requestBytes false nothing) (chip 2 1))) ∷ length (entriesOf (planOf (requestBytes true all) (chip 3 1))) ∷ [] ≡ fewest ∷ most ∷ []
 unfolding byBank
 shortest-and-longest = refl
 

@@ -12,7 +12,7 @@ use Rattle.types.specs.declared.Planned.{Planned}
 use Rattle.rules.specs.Document01.Result.{ok}
 use Rattle.rules.specs.Document01.Refusals.{numberOf}
 use Rattle.rules.specs.Document01.Plan.{blankPlan, Asked, requestOf}
-use Rattle.rules.specs.Document01.Entries.{entriesOf}
+use Rattle.rules.specs.Document01.Entries.{fewest, most, entriesOf}
 use Rattle.claims.specs.Rust.Rcc.{frozen}
 use Rattle.rules.specs.Manual.Tree.{among}
 use Rattle.claims.specs.Demands.Agreement.{Agreement}
@@ -22,9 +22,9 @@ use Rattle.claims.specs.Demands.Readings.{Reads, BankReads}
 pub use Rattle.rules.specs.Document01.Refusals.{planNumbers, bankNumbers}
 
 -- ---- demand 1
--- one complete plan, with 21 to 69 entries; or one listed refusal, with the blank plan and no entry
+-- one complete plan, with as many entries as a list has; or one listed refusal, with the blank plan and no entry
 pub record Answered (listed : List ℕ) (x : Planned) : Type 0 where
-  pub plan : x .answer ≡ Accepted → (21 ≤ length (entriesOf x)) × (length (entriesOf x) ≤ 69)
+  pub plan : x .answer ≡ Accepted → (fewest ≤ length (entriesOf x)) × (length (entriesOf x) ≤ most)
   pub refusal : (n : Refusal) → x .answer ≡ Refused n → among listed (numberOf n) ≡ true
   pub blank : (n : Refusal) → x .answer ≡ Refused n → x .plan ≡ blankPlan
   pub none : (n : Refusal) → x .answer ≡ Refused n → entriesOf x ≡ []

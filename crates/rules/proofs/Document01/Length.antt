@@ -1,4 +1,4 @@
--- The length of a list: 21 to 69 for a plan, 0 for a refusal (document 01, Register entries).
+-- The length of a list: `fewest` to `most` for a plan, 0 for a refusal (document 01, Register entries).
 use mathlib.Core.Path.{_≡_, refl}
 use mathlib.Core.Bool.{Bool, true, false}
 use Prim.Native.Nat.{ℕ, _≤_}
@@ -19,7 +19,7 @@ use Rattle.types.specs.declared.Answer.the-variants.{Accepted, Refused}
 use Rattle.types.specs.declared.Planned.{Planned}
 use Rattle.rules.specs.Document01.Fields
 use Rattle.rules.specs.Document01.Fields.{ofPll}
-use Rattle.rules.specs.Document01.Entries.{outputEntries, fractionEntries, settingEntries, setupEntries, pllIn, clockEntries, hseEntries, sourceEntries, outputStart, startEntries, busEntries, planEntries, entriesOf, listWith}
+use Rattle.rules.specs.Document01.Entries.{outputEntries, fractionEntries, settingEntries, setupEntries, pllIn, clockEntries, hseEntries, sourceEntries, outputStart, startEntries, busEntries, planEntries, entriesOf, listWith, fewest, most}
 
 output-length : (d e : ℕ) (o : PllOutput) → length (outputEntries d e o) ≤ 2
 output-length d e Off = omega arith
@@ -65,7 +65,7 @@ unfolding busEntries
 bus-length p = refl
 
 -- a plan's list
-pub plan-length : (p : Plan) → (21 ≤ length (planEntries p)) × (length (planEntries p) ≤ 69)
+pub plan-length : (p : Plan) → (fewest ≤ length (planEntries p)) × (length (planEntries p) ≤ most)
 unfolding listWith
 plan-length p =
     let setup0 = setup-length 0 (pllIn p 0) in
@@ -81,7 +81,7 @@ plan-length p =
     simp length-append (omega arith)
 
 -- an answer's list: a plan's, or none
-pub accepted-length : (x : Planned) → x .answer ≡ Accepted → (21 ≤ length (entriesOf x)) × (length (entriesOf x) ≤ 69)
+pub accepted-length : (x : Planned) → x .answer ≡ Accepted → (fewest ≤ length (entriesOf x)) × (length (entriesOf x) ≤ most)
 unfolding entriesOf
 accepted-length x e = rw e (plan-length (x .plan))
 
@@ -90,10 +90,10 @@ unfolding entriesOf
 refused-length x n e = rw e
 
 -- so no list is longer
-pub at-most : (x : Planned) → length (entriesOf x) ≤ 69
+pub at-most : (x : Planned) → length (entriesOf x) ≤ most
 unfolding entriesOf
 at-most x = go (x .answer) refl
   where
-    go : (a : Answer) → x .answer ≡ a → length (entriesOf x) ≤ 69
+    go : (a : Answer) → x .answer ≡ a → length (entriesOf x) ≤ most
     go Accepted e = accepted-length x e .1
     go (Refused n) e = let z = refused-length x n e in omega arith

@@ -132,6 +132,13 @@ listWith starts p =
 abbrev pub planEntries : Plan → List Entry
 planEntries = listWith starts
 
+-- a list has at most 69; the shortest is that of a request for nothing on a chip with two PLLs
+abbrev pub most : ℕ
+most = 69
+
+abbrev pub fewest : ℕ
+fewest = 21
+
 -- a refused request has no entry
 abbrev pub answerEntries : Answer → Plan → List Entry
 answerEntries Accepted p = planEntries p
