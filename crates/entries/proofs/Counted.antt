@@ -75,7 +75,7 @@ starts-length plls =
     simp length-append (omega arith)
 
 -- the whole list
-pub plan-length : (p : Plan) → setupsCount (p .plls) + 9 + hseCount (p .clocks .hse) + sourceCount (p .three) + startsCount (p .plls) + 10 ≡ length (planEntries p)
+pub plan-length : (p : Plan) → setupsCount (p .plls) + length (clockEntries (p .waits) (p .selectors) (p .mcos)) + hseCount (p .clocks .hse) + sourceCount (p .three) + startsCount (p .plls) + length (busEntries (p .buses) (p .selectors)) ≡ length (planEntries p)
 unfolding clockEntries busEntries
 plan-length p =
     let b = hse-length (p .clocks .hse) (p .bypass) in

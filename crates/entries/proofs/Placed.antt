@@ -26,6 +26,15 @@ use Rattle.entries.specs.Place.{entryAt, entryOr}
 pub above : (n k : ℕ) → n ≤ k → k ≢ n → suc n ≤ k
 above n k h d = omega (arith, d)
 
+-- no arm of a match on the place: none of the places below n
+abbrev pub Missed : (n k : ℕ) → Type 0
+Missed zero k = Unit {0}
+Missed (suc n) k = Missed n k × (k ≢ n)
+
+pub missed : (n k : ℕ) → Missed n k → n ≤ k
+missed zero k m = omega arith
+missed (suc n) k m = above n k (missed n k (m .0)) (m .1)
+
 -- past the end there is none
 pub past : (s : List Entry) (k : ℕ) → length s ≤ k → Read 0 ≡ entryOr s k
 past s k h = sym (List·getD-eq-default s (Read 0) h)

@@ -24,8 +24,9 @@ use Rattle.types.specs.declared.Pll.the-variants.{Idle, Runs}
 use Rattle.types.specs.declared.Plan.{Plan}
 use Rattle.types.specs.declared.Answer.the-variants.{Accepted}
 use Rattle.types.specs.declared.Entry.{Entry}
+use Rattle.types.specs.declared.Entry.the-variants.{Set, Set2, Set3, Set4, Wait, Wait2, Check, Read}
 use Rattle.types.specs.declared.Refusal.the-variants.{BusZero, AhbZero, McoZero, McoRatio}
-use Rattle.laws.proofs.Tests.{and-right, at-each}
+use Rattle.laws.proofs.Tests.{and-left, and-right, at-each}
 use Rattle.rules.specs.Document01.Result.{Result, refused, ok, require}
 use Rattle.rules.specs.Document01.Hertz.{ratioOf, hertzOr, notZero}
 use Rattle.rules.specs.Document01.Request.{sourceOf, askedOf}
@@ -90,6 +91,41 @@ after-reset (by h) = h resetBank reset-within
 infixr 5 _then_
 _then_ : {s t : List Entry} → Keeps s → Keeps t → Keeps (s ++ t)
 _then_ {s} {t} (by h) (by k) = by λ b w. rw (apply-append s t b) (k _ (h b w))
+
+-- a list whose values fit their fields, by a computed test
+abbrev fit : List Entry → Bool
+fit [] = true
+fit (Set f v ∷ es) = under (limit f) v && fit es
+fit (Set2 f v g w ∷ es) = under (limit f) v && (under (limit g) w && fit es)
+fit (Set3 f v g w h x ∷ es) = under (limit f) v && (under (limit g) w && (under (limit h) x && fit es))
+fit (Set4 f v g w h x k y ∷ es) = under (limit f) v && (under (limit g) w && (under (limit h) x && (under (limit k) y && fit es)))
+fit (Wait f v ∷ es) = fit es
+fit (Wait2 f v g w ∷ es) = fit es
+fit (Check f v ∷ es) = fit es
+fit (Read f ∷ es) = fit es
+
+keeping : (es : List Entry) → fit es ≡ true → (b : List ℕ) → Within b → Within (applyAll es b)
+keeping [] t b i = i
+keeping (Set f v ∷ es) t b i = keeping es (and-right (under (limit f) v) _ t) _ (put f v (and-left _ _ t) i)
+keeping (Set2 f v g w ∷ es) t b i =
+    let t1 = and-right (under (limit f) v) _ t in
+    keeping es (and-right (under (limit g) w) _ t1) _ (put g w (and-left _ _ t1) (put f v (and-left _ _ t) i))
+keeping (Set3 f v g w h x ∷ es) t b i =
+    let t1 = and-right (under (limit f) v) _ t in
+    let t2 = and-right (under (limit g) w) _ t1 in
+    keeping es (and-right (under (limit h) x) _ t2) _ (put h x (and-left _ _ t2) (put g w (and-left _ _ t1) (put f v (and-left _ _ t) i)))
+keeping (Set4 f v g w h x k y ∷ es) t b i =
+    let t1 = and-right (under (limit f) v) _ t in
+    let t2 = and-right (under (limit g) w) _ t1 in
+    let t3 = and-right (under (limit h) x) _ t2 in
+    keeping es (and-right (under (limit k) y) _ t3) _ (put k y (and-left _ _ t3) (put h x (and-left _ _ t2) (put g w (and-left _ _ t1) (put f v (and-left _ _ t) i))))
+keeping (Wait f v ∷ es) t b i = keeping es t b i
+keeping (Wait2 f v g w ∷ es) t b i = keeping es t b i
+keeping (Check f v ∷ es) t b i = keeping es t b i
+keeping (Read f ∷ es) t b i = keeping es t b i
+
+fitting : (es : List Entry) → fit es ≡ true → Keeps es
+fitting es t = by (keeping es t)
 
 -- ---- the entries of a PLL
 pub number-below : (j : PllName) → number j < 3
@@ -196,9 +232,7 @@ module _ (p : Plan) where
   clocks-keep : p .mcos .mco1 .pre ≤ 15 → p .mcos .mco2 .pre ≤ 15 → Keeps (clockEntries (p .waits) (p .selectors) (p .mcos))
   unfolding clockEntries
   clocks-keep h i =
-      by λ b w. put 57 (p .mcos .mco2 .pre) (le-leb _ 15 i) (put 56 (p .selectors .mco2sel) refl (put 55 (p .mcos .mco1 .pre) (le-leb _ 15 h) (put 54 (p .selectors .mco1sel) refl
-      (put 52 1 refl (put 50 1 refl (put 49 (prftenOf (p .waits .latency)) refl (put 48 (p .waits .latency) refl (put 47 (p .waits .delay) refl
-      (put 45 1 refl w)))))))))
+      fitting _ (rw (le-leb (p .mcos .mco1 .pre) 15 h, le-leb (p .mcos .mco2 .pre) 15 i))
 
   hse-keeps : (x : Hertz) → Keeps (hseEntries x (p .bypass))
   hse-keeps Unset = by λ b w. w
@@ -211,9 +245,7 @@ module _ (p : Plan) where
   buses-keep : p .buses .ahb .pre ≤ 512 → p .buses .apb1 .pre ≤ 16 → p .buses .apb2 .pre ≤ 16 → p .buses .apb3 .pre ≤ 16 → Keeps (busEntries (p .buses) (p .selectors))
   unfolding busEntries
   buses-keep h i j k =
-      by λ b w. put 73 0 refl (put 72 1 refl (put 71 0 refl (put 70 1 refl (put 69 1 refl (put 67 (p .selectors .sw) refl (put 66 0 refl
-      (put 65 (p .selectors .ckpersel) refl (put 64 (p .buses .apb3 .pre) (le-leb _ 16 k) (put 63 (p .buses .apb2 .pre) (le-leb _ 16 j) (put 62 (p .buses .apb1 .pre) (le-leb _ 16 i)
-      (put 61 (p .buses .ahb .pre) (le-leb _ 512 h) w)))))))))))
+      fitting _ (rw (le-leb (p .buses .ahb .pre) 512 h, le-leb (p .buses .apb1 .pre) 16 i, le-leb (p .buses .apb2 .pre) 16 j, le-leb (p .buses .apb3 .pre) 16 k))
 
 -- ---- the whole list, and the bank that it leaves
 abbrev BusesKeep : Plan → Type 0

@@ -1,6 +1,9 @@
 -- A plan sets the P of each PLL to values that the manual allows.
 use mathlib.Core.Path.{_≡_, refl, subst}
-use mathlib.Core.Bool.{Bool, true, false, cond}
+use mathlib.Core.Bool.{Bool, true, false, cond, _&&_}
+use lib.Dec.{leb}
+use borrow.Author.Tests.{leb-true}
+use Rattle.laws.proofs.Tests.{and-left, and-right}
 use mathlib.Core.List.{List, [], _∷_, _++_}
 use Prim.Native.Nat.{ℕ, _-_, _≤_, _<_}
 use native.Mathlib.Omega.{arith}
@@ -38,6 +41,18 @@ Fine c (Wait f v) = Unit {0}
 Fine c (Wait2 f v g w) = Unit {0}
 Fine c (Check f v) = Unit {0}
 Fine c (Read f) = Unit {0}
+
+-- each field that is set alone is behind the PLLs'
+abbrev outside : List Entry → Bool
+outside [] = true
+outside (Set f v ∷ es) = leb 45 f && outside es
+outside (Set2 f v g w ∷ es) = outside es
+outside (Set3 f v g w h x ∷ es) = outside es
+outside (Set4 f v g w h x k y ∷ es) = outside es
+outside (Wait f v ∷ es) = outside es
+outside (Wait2 f v g w ∷ es) = outside es
+outside (Check f v ∷ es) = outside es
+outside (Read f ∷ es) = outside es
 
 abbrev Each : ChipState → List Entry → Type 0
 Each c [] = Unit {0}
@@ -98,10 +113,22 @@ module _ (c : ChipState) where
   third-fine true source a x h = setup-fine 2 source a x h
   third-fine false source a x h = rw h (by tt)
 
+  -- entries that set one field alone only behind the PLLs' fields, by a computed test
+  outside-fine : (es : List Entry) → outside es ≡ true → Each c es
+  outside-fine [] t = tt
+  outside-fine (Set f v ∷ es) t = let l = leb-true 45 f (and-left (leb 45 f) _ t) in (λ j k e. absurd (omega arith), outside-fine es (and-right (leb 45 f) _ t))
+  outside-fine (Set2 f v g w ∷ es) t = (tt, outside-fine es t)
+  outside-fine (Set3 f v g w h x ∷ es) t = (tt, outside-fine es t)
+  outside-fine (Set4 f v g w h x k y ∷ es) t = (tt, outside-fine es t)
+  outside-fine (Wait f v ∷ es) t = (tt, outside-fine es t)
+  outside-fine (Wait2 f v g w ∷ es) t = (tt, outside-fine es t)
+  outside-fine (Check f v ∷ es) t = (tt, outside-fine es t)
+  outside-fine (Read f ∷ es) t = (tt, outside-fine es t)
+
   clocks-fine : (p : Plan) → All c (clockEntries (p .waits) (p .selectors) (p .mcos))
   unfolding clockEntries
   clocks-fine p =
-      by (λ j l e. absurd (omega arith), (tt, (tt, (tt, (λ j l e. absurd (omega arith), (tt, (λ j l e. absurd (omega arith), (tt, (tt, tt)))))))))
+      by (outside-fine (clockEntries (p .waits) (p .selectors) (p .mcos)) refl)
 
   hse-fine : (h : Hertz) (b : Bool) → All c (hseEntries h b)
   hse-fine Unset b = by tt
@@ -122,7 +149,7 @@ module _ (c : ChipState) where
   bus-fine : (p : Plan) → All c (busEntries (p .buses) (p .selectors))
   unfolding busEntries
   bus-fine p =
-      by (tt, (tt, (λ j l e. absurd (omega arith), (λ j l e. absurd (omega arith), (λ j l e. absurd (omega arith), (tt, (tt, (λ j l e. absurd (omega arith), (tt, (tt, tt))))))))))
+      by (outside-fine (busEntries (p .buses) (p .selectors)) refl)
 
   plan-fine : (q : Request) (p : Plan) → LegalPlan q c p → All c (planEntries p)
   unfolding listWith

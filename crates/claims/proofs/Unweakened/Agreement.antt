@@ -3,7 +3,7 @@ use mathlib.Core.Path.{_≡_, refl, sym, ap, _∙_}
 use mathlib.Core.Logic.{_⊎_, inl, inr, ⊎-elim}
 use mathlib.Core.Bool.{Bool, true, false}
 use mathlib.Core.List.{List, [], _∷_, _++_, map}
-use Prim.Native.Nat.{ℕ, zero, suc, _+_, _-_, _*_, _%_, _<_}
+use Prim.Native.Nat.{ℕ, zero, suc, _+_, _-_, _*_, _%_, _<_, _≤_}
 use native.Mathlib.Omega.{arith}
 use lib.ListN.{length, drop, getD}
 use Rattle.types.specs.declared.Request.{Request}
@@ -16,7 +16,8 @@ use Rattle.types.specs.declared.Answer.the-variants.{Accepted, Refused}
 use Rattle.types.specs.declared.Planned.{Planned}
 use Rattle.rules.specs.Document01.Refusals.{numberOf}
 use Rattle.rules.specs.Document01.Request.{askedOf}
-use Rattle.rules.specs.Document01.Entries.{entriesOf}
+use Rattle.rules.specs.Document01.Entries.{entriesOf, fewest}
+use Rattle.rules.proofs.Document01.Length.{accepted-length}
 use Rattle.rules.specs.Words.{entryWords}
 use Rattle.claims.specs.Rust.Run.{Outcome, panics, ends}
 use Rattle.claims.specs.Rust.Rcc.{frozen}
@@ -58,9 +59,13 @@ one-clock h =
     omega arith
 
 -- fewer entries: the first of A's left out
+shorter : (es : List Entry) → fewest ≤ length es → drop 1 es ≡ es → ⊥
+shorter [] l e = absurd (omega arith)
+shorter (x ∷ es) l e = let z = ap length e in omega arith
+
 pub one-dropped : Agreement a (state false) planA (ends (drop 1 (entriesOf planA)) (reported (planA .plan))) → ⊥
-unfolding byBank
-one-dropped h = let z : _≡_ {A = ℕ} 30 31 = ap length (entries-fixed _ _ planA _ _ refl h) in omega arith
+unfolding byRules
+one-dropped h = shorter (entriesOf planA) (accepted-length planA refl .0) (entries-fixed _ _ planA _ _ refl h)
 
 -- any order: the first two of A's exchanged
 abbrev exchanged : List Entry → List Entry

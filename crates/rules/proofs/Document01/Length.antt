@@ -56,28 +56,18 @@ start-length : (k : ℕ) (x : Pll) → length (startEntries k x) ≤ 2
 start-length k Idle = omega arith
 start-length k (Runs s) = output-start-length k (s .p)
 
-clock-length : (p : Plan) → length (clockEntries (p .waits) (p .selectors) (p .mcos)) ≡ 9
-unfolding clockEntries
-clock-length p = refl
-
-bus-length : (p : Plan) → length (busEntries (p .buses) (p .selectors)) ≡ 10
-unfolding busEntries
-bus-length p = refl
-
 -- a plan's list
 pub plan-length : (p : Plan) → (fewest ≤ length (planEntries p)) × (length (planEntries p) ≤ most)
-unfolding listWith
+unfolding listWith clockEntries busEntries
 plan-length p =
     let setup0 = setup-length 0 (pllIn p 0) in
     let setup1 = setup-length 1 (pllIn p 1) in
     let setup2 = setup-length 2 (pllIn p 2) in
-    let clocks = clock-length p in
     let hse = hse-length (p .clocks .hse) (p .bypass) in
     let sources = source-length (p .three) (p .selectors .src) in
     let start0 = start-length 0 (pllIn p 0) in
     let start1 = start-length 1 (pllIn p 1) in
     let start2 = start-length 2 (pllIn p 2) in
-    let buses = bus-length p in
     simp length-append (omega arith)
 
 -- an answer's list: a plan's, or none

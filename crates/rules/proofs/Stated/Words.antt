@@ -2,10 +2,10 @@
 use mathlib.Core.Path.{_≡_, refl, sym, ap, _∙_}
 use mathlib.Core.List.{List, [], _∷_, map}
 use mathlib.Core.Option.{Option, none, some}
-use Prim.Native.Nat.{ℕ, zero, suc, _-_, _<_}
+use Prim.Native.Nat.{ℕ, zero, suc, _+_, _-_, _*_, _≤_, _<_}
 use native.Mathlib.Numerals.{add-one}
 use native.Mathlib.Omega.{arith}
-use lib.ListN.{getD, replicate}
+use lib.ListN.{length, getD, replicate}
 use borrow.Author.Tests.{lt-ltb}
 use Rattle.types.specs.declared.Entry.{Entry}
 use Rattle.types.specs.declared.Entry.the-variants.{Set, Set2, Set3, Set4, Wait, Wait2, Check, Read}
@@ -14,10 +14,13 @@ use Rattle.types.specs.declared.Refusal.the-variants.{OutsideCodes, NOutside, C
 use Rattle.types.specs.declared.Shown.{Shown}
 use Rattle.types.specs.declared.Shown.the-variants.{Next, Finished, Stopped}
 use Rattle.types.specs.declared.Answer.the-variants.{Accepted, Refused}
+use Rattle.types.specs.declared.Planned.{Planned}
+use Rattle.rules.specs.Document01.Entries.{entriesOf}
 use Rattle.rules.specs.Document01.Refusals.{refusalOf, codeOf}
 use Rattle.rules.specs.Document01.Walk.{before, steppedOf}
-use Rattle.rules.specs.Words.{fieldWord, entryWords, shownWords, storedAt, ran, shownCount, listed}
+use Rattle.rules.specs.Words.{fieldWord, entryWords, shownWords, storedAt, ran, shownCount, listLength, listed}
 use Rattle.rules.proofs.Document01.Listed.{each-found}
+use Rattle.rules.proofs.Document01.Length.{at-most}
 use Rattle.rules.proofs.Stated.Bank.{counted}
 
 -- ---- an answer as one number; of the refusals, those that neither the planner's call nor the bank call answers
@@ -48,6 +51,10 @@ pub list-of-two : listed (Set 48 5 ∷ Check 51 1 ∷ []) (replicate 21 70)
     ≡ 2 ∷ 1 ∷ 49 ∷ 5 ∷ 0 ∷ 0 ∷ 0 ∷ 0 ∷ 0 ∷ 0 ∷ 3 ∷ 52 ∷ 1 ∷ 0 ∷ 0 ∷ 0 ∷ 0 ∷ 0 ∷ 0 ∷ 70 ∷ 70 ∷ []
 unfolding storedAt
 list-of-two = refl
+
+-- no list is longer than there is room for, so no entry is lost
+pub list-has-room : (x : Planned) → 1 + 9 * length (entriesOf x) ≤ listLength
+list-has-room x = let h = at-most x in omega arith
 
 -- how many things shown are stored, by values to read and words of room: one before any step, one for every two values, nine words each
 pub counts : shownCount 0 8 ∷ shownCount 0 9 ∷ shownCount 0 900 ∷ shownCount 1 900 ∷ shownCount 2 900 ∷ shownCount 3 900 ∷ shownCount 4 900 ∷ shownCount 100 26 ∷ shownCount 100 27 ∷ []

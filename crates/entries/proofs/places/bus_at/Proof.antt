@@ -1,7 +1,7 @@
 -- `entries::places::bus_at` meets its contract.
-use native.Mathlib.Omega.{arith}
+use lib.ListN.{length}
 use Rattle.rules.specs.Document01.Entries.{busEntries}
-use Rattle.entries.proofs.Placed.{ended, above}
+use Rattle.entries.proofs.Placed.{ended, missed}
 use Rattle.entries.proofs.places.bus_at.Tie as tie
 
 returns : tie.Need-returns
@@ -46,7 +46,7 @@ returns-10 c = rw (c .match .keys10)
 
 returns-11 : tie.Need-returns-11
 unfolding busEntries
-returns-11 c = ended (busEntries (c .before .args .b) (c .before .args .s)) (c .before .args .k) (above 9 (c .before .args .k) (above 8 (c .before .args .k) (above 7 (c .before .args .k) (above 6 (c .before .args .k) (above 5 (c .before .args .k) (above 4 (c .before .args .k) (above 3 (c .before .args .k) (above 2 (c .before .args .k) (above 1 (c .before .args .k) (above 0 (c .before .args .k) (omega arith) (c .match .rest .0 .0 .0 .0 .0 .0 .0 .0 .0 .1)) (c .match .rest .0 .0 .0 .0 .0 .0 .0 .0 .1)) (c .match .rest .0 .0 .0 .0 .0 .0 .0 .1)) (c .match .rest .0 .0 .0 .0 .0 .0 .1)) (c .match .rest .0 .0 .0 .0 .0 .1)) (c .match .rest .0 .0 .0 .0 .1)) (c .match .rest .0 .0 .0 .1)) (c .match .rest .0 .0 .1)) (c .match .rest .0 .1)) (c .match .rest .1))
+returns-11 c = let x = c .before .args in ended (busEntries (x .b) (x .s)) (x .k) (missed (length (busEntries (x .b) (x .s))) (x .k) (c .match .rest))
 
 pub bus-at-spec : {M : Type 1} → Rattle.entries.proofs.places.bus_at.Statement.statement M
 bus-at-spec =
