@@ -1,11 +1,20 @@
 -- `registers::words::buses` meets its contract.
 use borrow.Author.Needs.{needs}
+use Rattle.fields.proofs.Stores.{next, next2}
 use Rattle.rules.specs.Document01.Entries.{busEntries}
 use Rattle.registers.proofs.words.buses.Tie as tie
 
 returns : tie.Need-returns
 unfolding busEntries
-returns c = cc
+returns c =
+    next2 _ _ _ _ (next2 _ _ _ _ (next _ _ (next _ _ (next _ _ (next _ _ (next2 _ _ _ _ (c .before .before .before .before .before .before .before .before .before .before .before .before .before .before .before .before .before .before .before .before .before .before .before .before .before .before .before .before .before .before .put2 .ensures)
+    (c .before .before .before .before .before .before .before .before .before .before .before .before .before .before .before .before .before .before .before .before .before .before .before .before .before .before .put22 .ensures))
+    (c .before .before .before .before .before .before .before .before .before .before .before .before .before .before .before .before .before .before .before .before .before .before .put .ensures))
+    (c .before .before .before .before .before .before .before .before .before .before .before .before .before .before .before .before .before .before .put3 .ensures))
+    (c .before .before .before .before .before .before .before .before .before .before .before .before .before .before .put4 .ensures))
+    (c .before .before .before .before .before .before .before .before .before .before .put5 .ensures))
+    (c .before .before .before .before .before .before .put23 .ensures))
+    (c .before .before .put24 .ensures)
 
 pub buses-spec : {M : Type 1} → Rattle.registers.proofs.words.buses.Statement.statement M
 buses-spec =
