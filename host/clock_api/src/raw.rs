@@ -31,8 +31,9 @@ mod c {
 
 /// Words of a report: 26 clocks as (0 or 1, hertz), then PPRE1 to PPRE3.
 pub const REPORT: usize = 55;
-/// Entries of a plan, at least and at most.
+/// Entries of a plan, at least.
 pub const FEWEST: usize = 21;
+/// Entries of a plan, at most.
 pub const MOST: usize = 69;
 /// Words of a list: the count, then nine words for each entry.
 pub const LIST: usize = 1 + 9 * MOST;
