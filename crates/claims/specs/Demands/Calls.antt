@@ -22,7 +22,7 @@ use Rattle.claims.specs.Demands.Readings.{Reads, BankReads}
 pub use Rattle.rules.specs.Document01.Refusals.{planNumbers, bankNumbers}
 
 -- ---- demand 1
--- one complete plan, with as many entries as a list has; or one listed refusal, with the blank plan and no entry
+-- one complete plan, with `fewest` to `most` entries; or one listed refusal, with the blank plan and no entry
 pub record Answered (listed : List ℕ) (x : Planned) : Type 0 where
   pub plan : x .answer ≡ Accepted → (fewest ≤ length (entriesOf x)) × (length (entriesOf x) ≤ most)
   pub refusal : (n : Refusal) → x .answer ≡ Refused n → among listed (numberOf n) ≡ true

@@ -15,7 +15,8 @@ use Rattle.types.specs.declared.Selectors.{Selectors}
 use Rattle.types.specs.declared.Buses.{Buses}
 use Rattle.types.specs.declared.Mcos.{Mcos}
 use Rattle.rules.specs.Document01.Plan.{answerTo}
-use Rattle.rules.specs.Document01.Entries.{baseEntries, fractionEntries, outputEntries, clockEntries, hseEntries, sourceEntries, outputStart, busEntries, entriesOf}
+use Rattle.rules.specs.Document01.Entries.{baseEntries, fractionEntries, outputEntries, clockEntries, hseEntries, sourceEntries, outputStart, busEntries, entriesOf, fewest, most}
+use Rattle.rules.specs.Words.{listLength}
 use Rattle.rules.proofs.Computes.{byBank}
 use Rattle.rules.proofs.Samples.{fullest, state3}
 
@@ -88,3 +89,7 @@ pub whole-order : order (entriesOf (answerTo (fullest Unset Unset Unset) (state3
     ++ ((1 ∷ 13 ∷ []) ∷ (2 ∷ 14 ∷ []) ∷ (1 ∷ 28 ∷ []) ∷ (2 ∷ 29 ∷ []) ∷ (1 ∷ 43 ∷ []) ∷ (2 ∷ 44 ∷ []) ∷ buses))))))
 unfolding byBank
 whole-order = refl
+
+-- "A list has at most 69"; docs/CODES.md: 622 words for the count and nine for each. The shortest has the 9, the 2 and the 10 of a request for nothing
+pub list-bounds : fewest ∷ most ∷ listLength ∷ [] ≡ 21 ∷ 69 ∷ 622 ∷ []
+list-bounds = refl

@@ -18,7 +18,7 @@ pub data Oscillator : Type 0 where
   off : Oscillator
   runs : ℕ → Oscillator
 
--- the crystal at HSE, by its hertz
+-- HSE as the tree is fed it: the request's hertz, or none
 abbrev pub fedBy : Hertz → Oscillator
 fedBy Unset = off
 fedBy (Hz h) = runs h

@@ -1,8 +1,9 @@
 -- `entries::places::clock_at` meets its contract.
 use native.Mathlib.Omega.{arith}
 use borrow.Author.Needs.{needs}
+use lib.ListN.{length}
 use Rattle.rules.specs.Document01.Entries.{clockEntries}
-use Rattle.entries.proofs.Placed.{past, above}
+use Rattle.entries.proofs.Placed.{past, missed}
 use Rattle.entries.proofs.places.clock_at.Tie as tie
 
 returns : tie.Need-returns
@@ -43,7 +44,7 @@ returns-9 c = rw (c .match .keys9)
 
 returns-10 : tie.Need-returns-10
 unfolding clockEntries
-returns-10 c = past (clockEntries (c .before .args .w) (c .before .args .s) (c .before .args .m)) (c .before .args .k) (above 8 (c .before .args .k) (above 7 (c .before .args .k) (above 6 (c .before .args .k) (above 5 (c .before .args .k) (above 4 (c .before .args .k) (above 3 (c .before .args .k) (above 2 (c .before .args .k) (above 1 (c .before .args .k) (above 0 (c .before .args .k) (omega arith) (c .match .rest .0 .0 .0 .0 .0 .0 .0 .0 .1)) (c .match .rest .0 .0 .0 .0 .0 .0 .0 .1)) (c .match .rest .0 .0 .0 .0 .0 .0 .1)) (c .match .rest .0 .0 .0 .0 .0 .1)) (c .match .rest .0 .0 .0 .0 .1)) (c .match .rest .0 .0 .0 .1)) (c .match .rest .0 .0 .1)) (c .match .rest .0 .1)) (c .match .rest .1))
+returns-10 c = let x = c .before .args in past (clockEntries (x .w) (x .s) (x .m)) (x .k) (missed (length (clockEntries (x .w) (x .s) (x .m))) (x .k) (c .match .rest))
 
 pub clock-at-spec : {M : Type 1} → Rattle.entries.proofs.places.clock_at.Statement.statement M
 clock-at-spec =
