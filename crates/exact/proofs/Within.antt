@@ -34,7 +34,7 @@ use Rattle.rules.specs.Document01.OnePll.{firstOf, pClock, qClock, pllFrom}
 use Rattle.rules.specs.Document01.Buses.{hpreFor, ahbOf, apbOf}
 use Rattle.rules.specs.Document01.Mco.{mco1Input, mco2Input, mcoOf}
 use Rattle.rules.specs.Document01.Plan.{pllsOf, hsiReady, systemFrom, busesOf, mcosOf, planWith, chosenPlan, answered, answerTo}
-use Rattle.rules.specs.Document01.Entries.{outputEntries, fractionEntries, baseEntries, settingEntries, setupEntries, pllIn, prftenOf, clockEntries, bit, hseEntries, sourceEntries, outputStart, startEntries, busEntries, planEntries, entriesOf, listWith}
+use Rattle.rules.specs.Document01.Entries.{outputEntries, fractionEntries, baseEntries, settingEntries, setupEntries, pllIn, clockEntries, bit, hseEntries, sourceEntries, outputStart, startEntries, busEntries, planEntries, entriesOf, listWith}
 use Rattle.rules.specs.Document01.Bank.{applyAll, resetBank}
 use Rattle.rules.specs.Manual.Path.{PllName, pll1, pll2, pll3}
 use Rattle.rules.specs.Manual.Tree.{number, word}

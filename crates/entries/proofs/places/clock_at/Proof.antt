@@ -1,5 +1,4 @@
 -- `entries::places::clock_at` meets its contract.
-use native.Mathlib.Omega.{arith}
 use borrow.Author.Needs.{needs}
 use lib.ListN.{length}
 use Rattle.rules.specs.Document01.Entries.{clockEntries}
