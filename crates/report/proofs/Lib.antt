@@ -1,1 +1,1 @@
-pub mod Chain
+pub mod Stored

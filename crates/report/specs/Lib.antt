@@ -1,1 +1,1 @@
-pub mod Clocks
+pub mod Report

@@ -2,54 +2,39 @@
 ghost use mathlib.Core.Path.{_≡_};
 ghost use Prim.Native.Nat.{_<_};
 ghost use mathlib.Core.List.{[], _∷_};
+ghost use Rattle.rules.specs.Document01.Entries.{bit};
+ghost use Rattle.rules.specs.Document01.Hertz.{isSet, hertzOr};
 ghost use Rattle.rules.specs.Document01.OnePll.{clockOf};
-ghost use Rattle.rules.specs.Words.{storedFrom, hertzWords, reportWords};
-ghost use Rattle.rules.specs.Document01.OnePll.{pllFrom};
-ghost use Rattle.report.specs.Clocks.{always, crystals, outputs, clocks, clockAt};
+ghost use Rattle.rules.specs.Words.{storedFrom, hertzWords, pllWords, reportWords};
+ghost use Rattle.report.specs.Report.{alwaysWords, givenWords, outputWords};
 use fields::put;
+use types::Buses;
+use types::Clocks;
 use types::Hertz;
+use types::Mcos;
 use types::Plan;
 use types::Pll;
 use types::PllOutput;
 use types::PllPlan;
-use types::PllSettings;
 
-// The system clock, the buses, the timers, the peripheral clock and the chip's oscillators: always there.
-fn always_of(p: Plan) -> [u32; 12]
-    ensures { λ r. ⌜ r ≡ always p ⌝ }
+// 1 where a clock is there.
+fn set_of(h: Hertz) -> u32
+    ensures { λ r. ⌜ r ≡ bit (isSet h) ⌝ }
 {
-    [
-        p.clocks.sys,
-        p.buses.ahb.clock,
-        p.buses.apb1.clock,
-        p.buses.apb2.clock,
-        p.buses.apb3.clock,
-        p.clocks.timx,
-        p.clocks.timy,
-        p.clocks.per,
-        p.clocks.hsi,
-        p.clocks.csi,
-        p.clocks.hsi48,
-        p.clocks.lsi,
-    ]
+    match h {
+        Hertz::Unset => 0,
+        Hertz::Hz(_) => 1,
+    }
 }
 
-// Crystals and clock outputs.
-fn crystal_at(p: Plan, k: usize) -> Hertz
-    requires { ⌜ k < 5 ⌝ }
-    ensures { λ r. ⌜ r ≡ clockAt (crystals p) k ⌝ }
+// Its hertz, and 0 where it is not there.
+fn hertz_or_0(h: Hertz) -> u32
+    ensures { λ r. ⌜ r ≡ hertzOr h 0 ⌝ }
 {
-    let c = p.clocks;
-    let m = p.mcos;
-    let one = m.mco1;
-    let two = m.mco2;
-    let hse = c.hse;
-    let lse = c.lse;
-    let audio = c.audio;
-    let mco1 = one.clock;
-    let mco2 = two.clock;
-    let a = [hse, lse, audio, mco1, mco2];
-    a[k]
+    match h {
+        Hertz::Unset => 0,
+        Hertz::Hz(f) => f,
+    }
 }
 
 // An output of a PLL, where it is on.
@@ -62,52 +47,6 @@ fn hertz_of(o: PllOutput) -> Hertz
     }
 }
 
-// P, Q or R of a PLL that runs.
-fn output_at(s: PllSettings, k: usize) -> Hertz
-    requires { ⌜ k < 3 ⌝ }
-    ensures { λ r. ⌜ r ≡ clockAt (clockOf (s .p) ∷ clockOf (s .q) ∷ clockOf (s .r) ∷ []) k ⌝ }
-{
-    let p = s.p;
-    let q = s.q;
-    let r = s.r;
-    let a = [hertz_of(p), hertz_of(q), hertz_of(r)];
-    a[k]
-}
-
-// P, Q or R of PLL j.
-fn pll_at(plls: [PllPlan; 3], j: usize, k: usize) -> Hertz
-    requires { ⌜ (j < 3) × (k < 3) ⌝ }
-    ensures { λ r. ⌜ r ≡ clockAt (outputs (pllFrom plls j)) k ⌝ }
-{
-    let a = plls[j];
-    let x = a.pll;
-    match x {
-        Pll::Idle => Hertz::Unset,
-        Pll::Runs(s) => output_at(s, k),
-    }
-}
-
-// The clocks in the report's order.
-fn clock_at(p: Plan, there: [u32; 12], k: usize) -> Hertz
-    requires { ⌜ (k < 26) × (there ≡ always p) ⌝ }
-    ensures { λ r. ⌜ r ≡ clockAt (clocks p) k ⌝ }
-{
-    if k < 12 {
-        return Hertz::Hz(there[k]);
-    }
-    if k < 17 {
-        return crystal_at(p, k - 12);
-    }
-    let plls = p.plls;
-    if k < 20 {
-        return pll_at(plls, 0, k - 17);
-    }
-    if k < 23 {
-        return pll_at(plls, 1, k - 20);
-    }
-    pll_at(plls, 2, k - 23)
-}
-
 // Two words one after the other.
 fn put2(out: &mut [u32], at: usize, v: u32, w: u32)
     requires { ⌜ at < 55 ⌝ }
@@ -117,25 +56,103 @@ fn put2(out: &mut [u32], at: usize, v: u32, w: u32)
     put(at + 1, w, out)
 }
 
-// A clock: whether it is there, and its hertz.
+// A clock: whether it is there, and its hertz. Both are told without a branch, as a request's clocks are there or not in no order.
 fn put_clock(out: &mut [u32], at: usize, h: Hertz)
     requires { ⌜ at < 55 ⌝ }
     ensures { λ r. ⌜ now (out .exit) ≡ storedFrom (now (out .entry)) at (hertzWords h []) ⌝ }
 {
-    match h {
-        Hertz::Unset => put2(out, at, 0, 0),
-        Hertz::Hz(n) => put2(out, at, 1, n),
+    put2(out, at, set_of(h), hertz_or_0(h))
+}
+
+// Three clocks one after the other.
+fn put_three(out: &mut [u32], at: usize, p: Hertz, q: Hertz, r: Hertz)
+    requires { ⌜ at < 50 ⌝ }
+    ensures { λ x. ⌜ now (out .exit) ≡ storedFrom (now (out .entry)) at (hertzWords p (hertzWords q (hertzWords r []))) ⌝ }
+{
+    put_clock(out, at, p);
+    put_clock(out, at + 2, q);
+    put_clock(out, at + 4, r)
+}
+
+// P, Q and R of a PLL.
+fn put_pll(out: &mut [u32], at: usize, x: Pll)
+    requires { ⌜ at < 50 ⌝ }
+    ensures { λ r. ⌜ now (out .exit) ≡ storedFrom (now (out .entry)) at (pllWords x []) ⌝ }
+{
+    let none = Hertz::Unset;
+    match x {
+        Pll::Idle => put_three(out, at, none, none, none),
+        Pll::Runs(s) => {
+            let p = s.p;
+            let q = s.q;
+            let r = s.r;
+            put_three(out, at, hertz_of(p), hertz_of(q), hertz_of(r))
+        }
     }
+}
+
+// Four clocks that are always there.
+fn put_four(out: &mut [u32], at: usize, a: u32, b: u32, c: u32, d: u32)
+    requires { ⌜ at < 40 ⌝ }
+    ensures { λ r. ⌜ now (out .exit) ≡ storedFrom (now (out .entry)) at (1 ∷ a ∷ 1 ∷ b ∷ 1 ∷ c ∷ 1 ∷ d ∷ []) ⌝ }
+{
+    put2(out, at, 1, a);
+    put2(out, at + 2, 1, b);
+    put2(out, at + 4, 1, c);
+    put2(out, at + 6, 1, d)
+}
+
+// The system clock, the buses, the timers, the peripheral clock and the chip's oscillators.
+fn put_always(out: &mut [u32], c: Clocks, b: Buses)
+    ensures { λ r. ⌜ now (out .exit) ≡ storedFrom (now (out .entry)) 0 (alwaysWords c b) ⌝ }
+{
+    put_four(out, 0, c.sys, b.ahb.clock, b.apb1.clock, b.apb2.clock);
+    put_four(out, 8, b.apb3.clock, c.timx, c.timy, c.per);
+    put_four(out, 16, c.hsi, c.csi, c.hsi48, c.lsi)
+}
+
+// The crystals and the clock outputs.
+fn put_given(out: &mut [u32], c: Clocks, m: Mcos)
+    ensures { λ r. ⌜ now (out .exit) ≡ storedFrom (now (out .entry)) 24 (givenWords c m) ⌝ }
+{
+    let hse = c.hse;
+    let lse = c.lse;
+    let audio = c.audio;
+    let one = m.mco1;
+    let two = m.mco2;
+    let mco1 = one.clock;
+    let mco2 = two.clock;
+    put_three(out, 24, hse, lse, audio);
+    put_clock(out, 30, mco1);
+    put_clock(out, 32, mco2)
+}
+
+// P, Q and R of each PLL.
+fn put_outputs(out: &mut [u32], plls: [PllPlan; 3])
+    ensures { λ r. ⌜ now (out .exit) ≡ storedFrom (now (out .entry)) 34 (outputWords plls) ⌝ }
+{
+    let a = plls[0];
+    let b = plls[1];
+    let c = plls[2];
+    let x = a.pll;
+    let y = b.pll;
+    let z = c.pll;
+    put_pll(out, 34, x);
+    put_pll(out, 40, y);
+    put_pll(out, 46, z)
 }
 
 // The whole report: the clocks, then PPRE1 to 3.
 pub fn store_report(plan: Plan, out: &mut [u32])
     ensures { λ r. ⌜ now (out .exit) ≡ storedFrom (now (out .entry)) 0 (reportWords plan) ⌝ }
 {
-    let there = always_of(plan);
-    for k in 0..26 {
-        put_clock(out, 2 * k, clock_at(plan, there, k));
-    }
-    put2(out, 52, plan.buses.apb1.pre, plan.buses.apb2.pre);
-    put(54, plan.buses.apb3.pre, out)
+    let clocks = plan.clocks;
+    let buses = plan.buses;
+    let mcos = plan.mcos;
+    let plls = plan.plls;
+    put_always(out, clocks, buses);
+    put_given(out, clocks, mcos);
+    put_outputs(out, plls);
+    put2(out, 52, buses.apb1.pre, buses.apb2.pre);
+    put(54, buses.apb3.pre, out)
 }

@@ -1,7 +1,7 @@
 -- `report::put2` meets its contract.
 use borrow.Author.Needs.{needs}
 use denote.Ref.{now}
-use Rattle.report.proofs.Chain.{pair}
+use Rattle.report.proofs.Stored.{pair}
 use Rattle.report.proofs.put2.Tie as tie
 
 returns : tie.Need-returns
