@@ -1,1 +1,3 @@
 pub mod Accept
+pub mod Pattern
+pub mod Sides

@@ -7,7 +7,7 @@ use Rattle.types.specs.declared.Fracn.{Fracn}
 use Rattle.ieee754.specs.Steps.{fracnOf, fracnFloat}
 use Rattle.rules.specs.Document01.OnePll.{taken, fracnFrom}
 use Rattle.fracn.specs.declared.FracnInput.{FracnInput}
-use Rattle.fracn.proofs.Accept.{asked, to16, accepted, refused-high, refused-low, taken-from}
+use Rattle.fracn.proofs.Accept.{narrow, to16, accepted, accepted-zero, refused-high, refused-low, taken-from}
 use Rattle.fracn.proofs.calc_fracn.Tie as tie
 
 -- the value that the code tests
@@ -19,22 +19,22 @@ both : (i : FracnInput) {r : Fracn} → r ≡ fracnOf (i .reference) (i .n) (i .
     → (r ≡ fracnOf (i .reference) (i .n) (i .divider) (i .output)) × (taken r ≡ fracnFrom (i .reference) (i .n) (i .divider) (i .output))
 both i e = (e, ap taken e ∙ taken-from (i .reference) (i .n) (i .divider) (i .output))
 
-truncating-f32-to-u64-requires : tie.Need-truncating-f32-to-u64-requires
+cut-down-requires : tie.Need-cut-down-requires
 unfolding ofBits ofInt
-truncating-f32-to-u64-requires c κs = asked (tested (c .before .before .before .before .before .args .i)) (c .before .if1 .taken) (c .if2 .taken)
+cut-down-requires c κs = (c .before .if1 .taken, narrow (tested (c .before .before .before .before .before .args .i)) (c .before .if1 .taken) (c .if2 .taken))
 
 cast-t9 : tie.Need-cast-t9
 unfolding ofBits ofInt
 cast-t9 c =
     let f : Float = tested (c .before .before .before .before .before .before .args .i) in
-    record { fits = subst (λ (r : ℕ). r < 2 ^ 16) (sym (c .truncating-f32-to-u64 .ensures ∙ to16 f (c .before .before .if1 .taken) (c .before .if2 .taken))) (toUnsigned-lt 16 f) }
+    record { fits = subst (λ (r : ℕ). r < 2 ^ 16) (sym (c .cut-down .ensures ∙ to16 f (c .before .before .if1 .taken) (c .before .if2 .taken))) (toUnsigned-lt 16 f) }
 
 returns : tie.Need-returns
 unfolding fracnOf ofInt ofBits
 returns c =
     both (c .before .before .before .before .before .before .args .i)
-    (accepted (tested (c .before .before .before .before .before .before .args .i)) (c .truncating-f32-to-u64 .result)
-    (c .before .before .if1 .taken) (c .before .if2 .taken) (c .truncating-f32-to-u64 .ensures))
+    (accepted (tested (c .before .before .before .before .before .before .args .i)) (c .before .before .if1 .taken) (c .before .if2 .taken)
+    (c .cut-down .result) (c .cut-down .ensures))
 
 returns-2 : tie.Need-returns-2
 unfolding fracnOf ofInt ofBits
@@ -42,7 +42,11 @@ returns-2 c = both (c .before .before .before .before .before .args .i) (refused
 
 returns-3 : tie.Need-returns-3
 unfolding fracnOf ofInt ofBits
-returns-3 c = both (c .before .before .before .before .args .i) (refused-low (tested (c .before .before .before .before .args .i)) (c .if1 .left))
+returns-3 c = both (c .before .before .before .before .before .args .i) (accepted-zero (tested (c .before .before .before .before .before .args .i)) (c .before .if1 .left) (c .if3 .taken))
+
+returns-4 : tie.Need-returns-4
+unfolding fracnOf ofInt ofBits
+returns-4 c = both (c .before .before .before .before .before .args .i) (refused-low (tested (c .before .before .before .before .before .args .i)) (c .if3 .left))
 
 pub calc-fracn-spec : {M : Type 1} → Rattle.fracn.proofs.calc_fracn.Statement.statement M
-calc-fracn-spec = tie.close (tie.spec truncating-f32-to-u64-requires cast-t9 returns returns-2 returns-3)
+calc-fracn-spec = tie.close (tie.spec cut-down-requires cast-t9 returns returns-2 returns-3 returns-4)

@@ -17,8 +17,8 @@ steps : (c : tie.After-cut-u32) → c .cut-u32 .result ≡ vcoOf (c .before .bef
 unfolding vcoOf
 steps c =
     c .cut-u32 .ensures
-    ∙ ap (λ (x : Float). toUnsigned 32 (mul binary32 x (add binary32 (c .before .before .to-f322 .result) (div binary32 (float (c .before .before .before .before .args .fracn)) (ofBits binary32 0x46000000))))) (c .before .before .before .to-f32 .ensures)
-    ∙ ap (λ (x : Float). toUnsigned 32 (mul binary32 (float (c .before .before .before .before .args .reference)) (add binary32 x (div binary32 (float (c .before .before .before .before .args .fracn)) (ofBits binary32 0x46000000))))) (c .before .before .to-f322 .ensures)
+    ∙ ap (λ (x : Float). toUnsigned 32 (mul binary32 x (add binary32 (c .before .before .small-to-f322 .result) (div binary32 (float (c .before .before .before .before .args .fracn)) (ofBits binary32 0x46000000))))) (c .before .before .before .small-to-f32 .ensures)
+    ∙ ap (λ (x : Float). toUnsigned 32 (mul binary32 (float (c .before .before .before .before .args .reference)) (add binary32 x (div binary32 (float (c .before .before .before .before .args .fracn)) (ofBits binary32 0x46000000))))) (c .before .before .small-to-f322 .ensures)
     ∙ ap (λ (x : Float). toUnsigned 32 (mul binary32 (float (c .before .before .before .before .args .reference)) (add binary32 (float (c .before .before .before .before .args .n)) (div binary32 (float (c .before .before .before .before .args .fracn)) x)))) eight
 
 returns : tie.Need-returns

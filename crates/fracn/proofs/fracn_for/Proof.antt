@@ -6,7 +6,7 @@ use Rattle.ieee754.proofs.Zero.{fracn-always}
 use Rattle.fracn.proofs.fracn_for.Tie as tie
 
 steps : (c : tie.After-calc-fracn) → c .calc-fracn .result ≡ fracnOf (float (c .before .before .before .before .before .args .reference)) (float (c .before .before .before .before .before .args .n)) (float (c .before .before .before .before .before .args .divider)) (float (c .before .before .before .before .before .args .output))
-steps c = rw (c .calc-fracn .ensures .0, c .before .to-f324 .ensures, c .before .before .to-f323 .ensures, c .before .before .before .to-f322 .ensures, c .before .before .before .before .to-f32 .ensures)
+steps c = rw (c .calc-fracn .ensures .0, c .before .to-f32 .ensures, c .before .before .small-to-f323 .ensures, c .before .before .before .small-to-f322 .ensures, c .before .before .before .before .small-to-f32 .ensures)
 
 returns : tie.Need-returns
 returns c =
