@@ -1,6 +1,7 @@
 // The prescalers: rcc.rs, HPRE, PPRE and the timers; mco.rs, calculate_prescaler.
 ghost use mathlib.Core.Path.{_≡_};
-ghost use mathlib.Core.Bool.{true, not};
+ghost use mathlib.Core.Bool.{cond, not};
+ghost use lib.Dec.{leb};
 ghost use Prim.Native.Nat.{_≤_};
 ghost use Rattle.rules.specs.Document01.Hertz.{ratioOf, hertzOr, notZero};
 ghost use Rattle.rules.specs.Document01.Buses.{hpreOf, ppreOf, ahbOf, apbOf, timerOf};
@@ -13,16 +14,13 @@ use types::Mco;
 use types::McoAnswer;
 use types::Refusal;
 
-// clock / wanted, rounded up.
+// clock / wanted, rounded up. What is left over is added as a number, since no branch can be foreseen on it.
 fn ratio(clock: u32, wanted: u32) -> u32
     requires { ⌜ 1 ≤ wanted ⌝ }
     ensures { λ r. ⌜ r ≡ ratioOf clock wanted ⌝ }
 {
-    let q = clock / wanted;
-    if clock % wanted == 0 {
-        return q;
-    }
-    q + 1
+    let over = (clock % wanted != 0) as u32;
+    clock / wanted + over
 }
 
 // Whether 0 Hz is requested.
@@ -35,61 +33,56 @@ fn is_zero(requested: Hertz) -> bool
     }
 }
 
-// The ratio for a bus: unset means the clock itself.
-fn bus_ratio(clock: u32, requested: Hertz) -> u32
-    requires { ⌜ notZero requested ≡ true ⌝ }
-    ensures { λ r. ⌜ r ≡ ratioOf clock (hertzOr requested clock) ⌝ }
+// The clock that is requested: unset means the clock itself.
+fn hertz_or(requested: Hertz, clock: u32) -> u32
+    ensures { λ r. ⌜ r ≡ hertzOr requested clock ⌝ }
 {
     match requested {
-        Hertz::Unset => {
-            if clock == 0 {
-                return 0;
-            }
-            ratio(clock, clock)
-        }
-        Hertz::Hz(h) => ratio(clock, h),
+        Hertz::Unset => clock,
+        Hertz::Hz(h) => h,
     }
+}
+
+// The ratio for a bus. A clock of 0 Hz has a ratio of 0.
+fn bus_ratio(clock: u32, requested: Hertz) -> u32
+    ensures { λ r. ⌜ r ≡ ratioOf clock (hertzOr requested clock) ⌝ }
+{
+    let wanted = hertz_or(requested, clock);
+    if wanted == 0 {
+        return 0;
+    }
+    ratio(clock, wanted)
+}
+
+// A row's divisor for a ratio up to its bound, else what the rows behind it give. The rows below are chains of it, from the last to the first.
+fn row(ratio: u32, bound: u32, divisor: u32, behind: u32) -> u32
+    ensures { λ r. ⌜ r ≡ cond (leb ratio bound) divisor behind ⌝ }
+{
+    if ratio <= bound { divisor } else { behind }
 }
 
 // PPRE for a ratio.
 fn ppre_of(ratio: u32) -> u32
     ensures { λ r. ⌜ r ≡ ppreOf ratio ⌝ }
 {
-    if ratio <= 1 {
-        return 1;
-    }
-    if ratio <= 2 {
-        return 2;
-    }
-    if ratio <= 5 {
-        return 4;
-    }
-    if ratio <= 11 {
-        return 8;
-    }
-    16
+    let above_5 = row(ratio, 11, 8, 16);
+    let above_2 = row(ratio, 5, 4, above_5);
+    let above_1 = row(ratio, 2, 2, above_2);
+    row(ratio, 1, 1, above_1)
 }
 
-// HPRE for a ratio: up to 11 the same as PPRE.
+// HPRE for a ratio.
 fn hpre_of(ratio: u32) -> u32
     ensures { λ r. ⌜ r ≡ hpreOf ratio ⌝ }
 {
-    if ratio <= 11 {
-        return ppre_of(ratio);
-    }
-    if ratio <= 39 {
-        return 16;
-    }
-    if ratio <= 95 {
-        return 64;
-    }
-    if ratio <= 191 {
-        return 128;
-    }
-    if ratio <= 383 {
-        return 256;
-    }
-    512
+    let above_191 = row(ratio, 383, 256, 512);
+    let above_95 = row(ratio, 191, 128, above_191);
+    let above_39 = row(ratio, 95, 64, above_95);
+    let above_11 = row(ratio, 39, 16, above_39);
+    let above_5 = row(ratio, 11, 8, above_11);
+    let above_2 = row(ratio, 5, 4, above_5);
+    let above_1 = row(ratio, 2, 2, above_2);
+    row(ratio, 1, 1, above_1)
 }
 
 // AHB from the system clock, with refusals 18 and 19.

@@ -20,9 +20,6 @@ returns : tie.Need-returns
 unfolding ahbOf
 returns c = rw (zero (c .before .before .args .requested) (c .before .is-zero .ensures) (c .if1 .taken))
 
-bus-ratio-requires : tie.Need-bus-ratio-requires
-bus-ratio-requires c κs = nonzero (c .before .before .args .requested) (c .before .is-zero .ensures) (c .if1 .left)
-
 div-hclk : tie.Need-div-hclk
 div-hclk c = rw (c .hpre-of .ensures) (hpre-pos (c .before .bus-ratio .result))
 
@@ -35,4 +32,4 @@ unfolding ahbOf
 returns-3 c = rw (above-zero (c .before), ← divisor (c .before), ne-eqb _ _ (c .if2 .left))
 
 pub ahb-spec : {M : Type 1} → Rattle.prescaler.proofs.ahb.Statement.statement M
-ahb-spec = tie.close (tie.spec (λ c κs. search needs) returns bus-ratio-requires (λ c κs. search needs) div-hclk returns-2 returns-3)
+ahb-spec = tie.close (tie.spec (λ c κs. search needs) returns (λ c κs. search needs) (λ c κs. search needs) div-hclk returns-2 returns-3)

@@ -10,9 +10,6 @@ returns : tie.Need-returns
 unfolding apbOf
 returns c = rw (zero (c .before .before .args .requested) (c .before .is-zero .ensures) (c .if1 .taken))
 
-bus-ratio-requires : tie.Need-bus-ratio-requires
-bus-ratio-requires c κs = nonzero (c .before .before .args .requested) (c .before .is-zero .ensures) (c .if1 .left)
-
 div-pclk : tie.Need-div-pclk
 div-pclk c = rw (c .ppre-of .ensures) (ppre-pos (c .before .bus-ratio .result))
 
@@ -24,4 +21,4 @@ returns-2 c =
     rw (nonzero (a .requested) (c .before .before .before .is-zero .ensures) (c .before .before .if1 .left), ← divisor)
 
 pub apb-spec : {M : Type 1} → Rattle.prescaler.proofs.apb.Statement.statement M
-apb-spec = tie.close (tie.spec (λ c κs. search needs) returns bus-ratio-requires (λ c κs. search needs) div-pclk returns-2)
+apb-spec = tie.close (tie.spec (λ c κs. search needs) returns (λ c κs. search needs) (λ c κs. search needs) div-pclk returns-2)
