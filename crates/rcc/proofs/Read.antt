@@ -1,6 +1,6 @@
--- Where reading refuses, the calls refuse with 1; where it reads, they answer as document 01 answers the typed request.
+-- Where reading refuses, the calls refuse with 1; where a bank has another length, with 2; else they answer as document 01 answers the typed request.
 use mathlib.Core.Path.{_≡_, refl, _∙_, ap, sym}
-use mathlib.Core.Bool.{true, false}
+use mathlib.Core.Bool.{Bool, true, false, cond}
 use mathlib.Core.List.{List}
 use Prim.Native.Nat.{ℕ}
 use mathlib.Core.Logic.{_≢_}
@@ -8,10 +8,10 @@ use borrow.Author.Tests.{ne-eqb}
 use native.Mathlib.Omega.{arith}
 use Rattle.types.specs.declared.Chip.{Chip}
 use Rattle.types.specs.declared.Planned.{Planned}
-use Rattle.types.specs.declared.Refusal.{Refusal}
 use Rattle.types.specs.declared.Refusal.the-variants.{OutsideCodes, BankLength}
-use Rattle.rules.specs.Document01.Result.{Result, refused, ok}
-use Rattle.rules.specs.Document01.Plan.{Asked, requestOf, answered, answerTyped, planOf, bankPlanOf}
+use lib.Dec.{eqb}
+use Rattle.rules.specs.Document01.Result.{Result, refused, ok, _>>=_, _>>_, require}
+use Rattle.rules.specs.Document01.Plan.{Asked, requestOf, answered, answerTyped, chosenPlan, bankPlanOf}
 use Rattle.rules.specs.Document01.Entries.{entriesOf}
 use Rattle.rules.specs.Document01.Bank.{applyAll}
 use Rattle.rules.proofs.Document01.RefusalsOfCalls.{outside-codes}
@@ -39,29 +39,31 @@ module _ (bytes : List ℕ) (chip : Chip) where
       go (refused n) h = absurd (let z : _≡_ {A = ℕ} 0 1 = cc in omega arith)
       go (ok a) h = refl
 
-  -- ---- the planner's call
-  pub refused-unread : (y : RequestRead) → y ≡ requestRead (requestOf bytes chip) → y .read ≡ false → (x : Planned) → x ≡ answered (refused OutsideCodes) → x ≡ planOf bytes chip
-  unfolding planOf
-  refused-unread y e h x r = r ∙ rw (not-read (sym (ap (λ z. z .read) e) ∙ h))
+  -- ---- what is answered: refusal 1, then 2 where the bank does not fit, then what document 01 answers the typed request
+  module _ (fits : Bool) (y : RequestRead) (e : y ≡ requestRead (requestOf bytes chip)) {x : Planned} where
+    pub unread : y .read ≡ false → x ≡ answered (refused OutsideCodes) → x ≡ bankPlanOf bytes chip (cond fits 82 0)
+    unfolding bankPlanOf
+    unread h r = r ∙ rw (not-read (sym (ap (λ z. z .read) e) ∙ h))
 
-  pub answered-read : (y : RequestRead) → y ≡ requestRead (requestOf bytes chip) → y .read ≡ true → (x : Planned) → x ≡ answerTyped (y .request) (y .chip) → x ≡ planOf bytes chip
-  answered-read y e h x r =
-      let a = was-read (sym (ap (λ z. z .read) e) ∙ h) in
-      r ∙ rw e (third-fits bytes chip (askedBy (requestOf bytes chip)) a ∙ sym (typed bytes chip (askedBy (requestOf bytes chip)) a))
+    pub no-room : y .read ≡ true → fits ≡ false → x ≡ answered (refused BankLength) → x ≡ bankPlanOf bytes chip (cond fits 82 0)
+    unfolding bankPlanOf
+    no-room h f r = r ∙ rw (was-read (sym (ap (λ z. z .read) e) ∙ h), f)
 
-  -- ---- the bank call
-  pub bank-unread : (words : ℕ) (y : RequestRead) → y ≡ requestRead (requestOf bytes chip) → y .read ≡ false → (x : Planned) → x ≡ answered (refused OutsideCodes) → x ≡ bankPlanOf bytes chip words
+    pub typed-answer : y .read ≡ true → fits ≡ true → x ≡ answerTyped (y .request) (y .chip) → x ≡ bankPlanOf bytes chip (cond fits 82 0)
+    typed-answer h f r =
+        let a = was-read (sym (ap (λ z. z .read) e) ∙ h) in
+        r ∙ rw (e, f) (third-fits bytes chip (askedBy (requestOf bytes chip)) a ∙ sym (typed bytes chip (askedBy (requestOf bytes chip)) a) ∙ sym (with-bank bytes chip))
+
+  -- a bank of another length than 82 has one answer
+  pub any-other : (words : ℕ) → words ≢ 82 → bankPlanOf bytes chip 0 ≡ bankPlanOf bytes chip words
   unfolding bankPlanOf
-  bank-unread words y e h x r = r ∙ rw (not-read (sym (ap (λ z. z .read) e) ∙ h))
+  any-other words l = rw (ne-eqb words 82 l)
 
-  pub bank-length : (words : ℕ) (y : RequestRead) → y ≡ requestRead (requestOf bytes chip) → y .read ≡ true → words ≢ 82 → (x : Planned) → x ≡ answered (refused BankLength) → x ≡ bankPlanOf bytes chip words
-  unfolding bankPlanOf
-  bank-length words y e h l x r = r ∙ rw (was-read (sym (ap (λ z. z .read) e) ∙ h), ne-eqb words 82 l)
-
-  pub bank-answered : (words : ℕ) (y : RequestRead) → y ≡ requestRead (requestOf bytes chip) → y .read ≡ true → words ≡ 82 → (x : Planned) → x ≡ answerTyped (y .request) (y .chip) → x ≡ bankPlanOf bytes chip words
-  bank-answered words y e h l x r = answered-read y e h x r ∙ rw l (sym (with-bank bytes chip))
-
--- a refusal keeps every word
-pub refused-keeps : (n : Refusal) (x : Planned) (b : List ℕ) → x ≡ answered (refused n) → b ≡ applyAll (entriesOf x) b
-unfolding entriesOf
-refused-keeps n x b e = rw e
+  -- and it is a refusal, which keeps every word
+  pub keeps-other : (words : ℕ) (b : List ℕ) → words ≢ 82 → b ≡ applyAll (entriesOf (bankPlanOf bytes chip words)) b
+  unfolding bankPlanOf entriesOf
+  keeps-other words b l = go (requestOf bytes chip)
+    where
+      go : (y : Result Asked) → b ≡ applyAll (entriesOf (answered (y >>= λ a. require (eqb words 82) BankLength >> chosenPlan (a .request) (a .chip)))) b
+      go (refused n) = refl
+      go (ok a) = rw (ne-eqb words 82 l)

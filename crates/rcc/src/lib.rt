@@ -1,5 +1,6 @@
 // The planner's two calls, with the customer's three demands. rcc.rs (Config, freeze).
 ghost use mathlib.Core.Path.{_≡_};
+ghost use mathlib.Core.Bool.{cond};
 ghost use lib.ListN.{length};
 ghost use Rattle.rules.specs.Document01.Plan.{planOf, bankPlanOf};
 ghost use Rattle.rules.specs.Document01.Entries.{entriesOf};
@@ -11,6 +12,22 @@ use types::Chip;
 use types::Planned;
 use types::Refusal;
 
+// The answer to the bytes of a request, where a bank has 82 words or is not there: `fits`. Refusal 1 comes before 2, and 2 before the others.
+fn answer(request: &[u8], chip: Chip, fits: bool) -> Planned
+    ensures { λ r. ⌜ r ≡ bankPlanOf (now (request .entry)) chip (cond fits 82 0) ⌝ }
+{
+    let asked = request::read_request(request, chip);
+    if !asked.read {
+        return freeze::refused(Refusal::OutsideCodes);
+    }
+    if !fits {
+        return freeze::refused(Refusal::BankLength);
+    }
+    let q = asked.request;
+    let c = asked.chip;
+    freeze::answer_to(q, c)
+}
+
 // The planner's call: the bytes of a request and the numbers of a chip to one complete plan or one refusal.
 pub fn plan(request: &[u8], chip: Chip) -> Planned
     ensures rules { λ r. ⌜ r ≡ planOf (now (request .entry)) chip ⌝ }
@@ -20,13 +37,7 @@ pub fn plan(request: &[u8], chip: Chip) -> Planned
     ensures readings { λ r. ⌜ ReadTwice (now (request .entry)) chip r ⌝ }
     ensures order { λ r. ⌜ AsRows (planRows (now (request .entry)) chip) (r .answer) ⌝ }
 {
-    let asked = request::read_request(request, chip);
-    let q = asked.request;
-    let c = asked.chip;
-    if asked.read {
-        return freeze::answer_to(q, c);
-    }
-    freeze::refused(Refusal::OutsideCodes)
+    answer(request, chip, true)
 }
 
 // The bank call: the same, with the whole list applied to a lent bank of 82 words. It polls nothing.
@@ -40,16 +51,10 @@ pub fn plan_bank(request: &[u8], chip: Chip, bank: &mut [u32]) -> Planned
     ensures readings { λ r. ⌜ BankReadTwice (now (request .entry)) chip r (now (bank .entry)) (now (bank .exit)) ⌝ }
     ensures order { λ r. ⌜ AsRows (bankRows (now (request .entry)) chip (length (now (bank .entry)))) (r .answer) ⌝ }
 {
-    let typed = request::read_request(request, chip);
-    if !typed.read {
-        return freeze::refused(Refusal::OutsideCodes);
-    }
     if bank.len() != 82 {
-        return freeze::refused(Refusal::BankLength);
+        return answer(request, chip, false);
     }
-    let q = typed.request;
-    let c = typed.chip;
-    let planned = freeze::answer_to(q, c);
+    let planned = answer(request, chip, true);
     registers::apply(planned, bank);
     planned
 }
