@@ -1,14 +1,22 @@
 -- What the C functions answer and leave, case by case: a plan, a refusal.
 use mathlib.Core.Path.{_≡_, refl}
+use mathlib.Core.Bool.{Bool, true, false, cond, _&&_}
 use mathlib.Core.List.{List}
 use Prim.Native.Nat.{ℕ}
+use native.Mathlib.Omega.{arith}
+use lib.Dec.{eqb}
+use lib.ListN.{length}
+use borrow.Author.Tests.{eqb-true}
+use Rattle.laws.proofs.Tests.{by-test}
 use Rattle.types.specs.declared.Refusal.{Refusal}
 use Rattle.types.specs.declared.Answer.{Answer}
 use Rattle.types.specs.declared.Answer.the-variants.{Accepted, Refused}
 use Rattle.types.specs.declared.Planned.{Planned}
+use Rattle.rules.specs.Document01.Plan.{planOf, bankPlanOf}
 use Rattle.rules.specs.Document01.Refusals.{numberOf, codeOf}
 use Rattle.rules.specs.Document01.Entries.{entriesOf}
 use Rattle.rules.specs.Words.{storedFrom, reportWords, listed as listedIn}
+use Rattle.chip_bytes.specs.Calls.{chipFrom, outside, askedOf, bankAsked}
 use Rattle.clock_api.specs.Calls.{reportBy, listBy}
 
 module _ (x : Planned) (room : List ℕ) {r : List ℕ} where
@@ -27,3 +35,21 @@ module _ (x : Planned) (room : List ℕ) {n : Refusal} {k : ℕ} where
 
   pub list-kept : x .answer ≡ Refused n → k ≡ numberOf n → (k ≡ codeOf (x .answer)) × (room ≡ listBy (x .answer) x room)
   list-kept a e = rw a (e, refl)
+
+-- a plan is answered only where the lent slice has its length
+planned-fits : (t : Bool) (n : ℕ) (p : Planned) {x : Planned} → x ≡ cond (t && eqb n 55) p outside → x .answer ≡ Accepted → n ≡ 55
+planned-fits true n p e a =
+    by-test (eqb n 55) (λ (h : eqb n 55 ≡ true). eqb-true n 55 h) (λ (h : eqb n 55 ≡ false). absurd (refused (rw h at e) a))
+  where
+    refused : {x : Planned} → x ≡ outside → x .answer ≡ Accepted → ⊥
+    refused e a = let z : _≡_ {A = ℕ} 0 1 = cc in omega arith
+planned-fits false n p e a = absurd (let z : _≡_ {A = ℕ} 0 1 = cc in omega arith)
+
+module _ (request chip : List ℕ) (n : ℕ) {x : Planned} where
+  pub asked-fits : x ≡ askedOf request chip (eqb n 55) → x .answer ≡ Accepted → n ≡ 55
+  unfolding askedOf
+  asked-fits = planned-fits (eqb (length chip) 7) n (planOf request (chipFrom chip))
+
+  pub bank-fits : (words : ℕ) → x ≡ bankAsked request chip (eqb n 55) words → x .answer ≡ Accepted → n ≡ 55
+  unfolding bankAsked
+  bank-fits words = planned-fits (eqb (length chip) 7) n (bankPlanOf request (chipFrom chip) words)
