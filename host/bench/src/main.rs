@@ -2,6 +2,7 @@
 use clock_api::{raw, Bank, Bytes, Chip, Request};
 use hal::{Asked, Quiet};
 use requests::Random;
+use std::panic::{catch_unwind, AssertUnwindSafe};
 use std::process::exit;
 use std::time::Instant;
 
@@ -25,6 +26,12 @@ fn main() {
             table(&chip, quiet, rounds);
         }
     }
+    hal::silence_panics();
+    for chip in [Chip::two_plls(), Chip::three_plls()] {
+        if let Some(quiet) = hal::QUIET.iter().find(|quiet| quiet.plls == chip.plls as u8) {
+            refusals(&chip, quiet, rounds);
+        }
+    }
     leaf(rounds);
     println!("Realistic requests that get a plan, {REQUESTS} for each chip, the same ones in");
     println!("every row; the rows take turns, and each has the best of {rounds} rounds, measured");
@@ -32,7 +39,8 @@ fn main() {
     println!("checks on, over a stand-in that stores each field in a word and answers every");
     println!("poll at once: no time of real registers is in it. The second row comes from the");
     println!("same request to the same clocks and registers, in one call; the rows below are");
-    println!("one call each, on bytes made before.");
+    println!("one call each, on bytes made before. A refusal is set beside the panic of freeze");
+    println!("on the same request, caught, with nothing printed.");
 }
 
 /// How far two measurements may differ, and how often they are made again.
@@ -76,12 +84,13 @@ fn keep<T>(value: &T) {
 }
 
 fn table(chip: &Chip, quiet: &Quiet, rounds: u32) {
-    let samples = samples(chip);
+    let samples = samples(chip, |_, code| code == 0);
     let numbers = chip.to_bytes();
     let (mut report, mut bank) = ([0; raw::REPORT], Bank::reset());
     let (mut clocks, mut registers) = (report, bank);
+    let (mut report_too, mut bank_too) = (report, bank);
     let mut list = [0; raw::LIST];
-    let [freeze, both, plan, store, entries, bytes] = best(
+    let [freeze, both, alone, plan, store, entries, bytes] = best(
         rounds,
         REQUESTS,
         [
@@ -91,6 +100,11 @@ fn table(chip: &Chip, quiet: &Quiet, rounds: u32) {
                     let bytes = sample.request.to_bytes(chip);
                     keep(&raw::plan_bank(&bytes, &numbers, &mut clocks, &mut registers.words))
                 })
+            },
+            &mut || {
+                samples
+                    .iter()
+                    .for_each(|sample| keep(&raw::plan_bank(&sample.bytes, &numbers, &mut report_too, &mut bank_too.words)))
             },
             &mut || samples.iter().for_each(|sample| keep(&raw::plan(&sample.bytes, &numbers, &mut report))),
             &mut || samples.iter().for_each(|sample| keep(&raw::bank(&sample.bytes, &numbers, &mut bank.words))),
@@ -102,6 +116,7 @@ fn table(chip: &Chip, quiet: &Quiet, rounds: u32) {
     for (name, time) in [
         ("setters and freeze: clocks and registers", freeze),
         ("to_bytes, clock_plan_bank: the same", both),
+        ("clock_plan_bank alone: both, on bytes", alone),
         ("clock_plan alone: clocks, in 55 words", plan),
         ("clock_bank alone: registers, in 82 words", store),
         ("clock_entries alone: the list, entry by entry", entries),
@@ -110,6 +125,24 @@ fn table(chip: &Chip, quiet: &Quiet, rounds: u32) {
         println!("  {name:<54}{time:>10.1}{:>13.2}", time / freeze);
     }
     println!();
+}
+
+/// Requests that are refused, and on which freeze panics.
+fn refusals(chip: &Chip, quiet: &Quiet, rounds: u32) {
+    let caught = |asked: &Asked| catch_unwind(AssertUnwindSafe(|| quiet.time_freeze(asked))).is_err();
+    let samples = samples(chip, |asked, code| code != 0 && caught(asked));
+    let numbers = chip.to_bytes();
+    let (mut report, mut bank) = ([0; raw::REPORT], Bank::reset());
+    let [panic, refusal] = best(
+        rounds.min(5),
+        REQUESTS,
+        [&mut || samples.iter().for_each(|sample| keep(&caught(&sample.asked))), &mut || {
+            samples.iter().for_each(|sample| keep(&raw::plan_bank(&sample.bytes, &numbers, &mut report, &mut bank.words)))
+        }],
+    );
+    println!("{} PLLs, refused{:>43}{:>13}", chip.plls as u8, "ns a request", "of a panic");
+    println!("  {:<54}{panic:>10.1}{:>13.2}", "setters and freeze: a panic, caught", 1.0);
+    println!("  {:<54}{refusal:>10.1}{:>13.2}\n", "clock_plan_bank: the refusal's number", refusal / panic);
 }
 
 /// FRACN alone: the sources' function is private, so its operations stand here.
@@ -142,7 +175,8 @@ fn fracn(reference: u32, n: u32, output: u32, divider: u32) -> u32 {
     }
 }
 
-fn samples(chip: &Chip) -> Vec<Sample> {
+/// Realistic requests for a chip that are wanted, by what is asked and what `clock_plan` answers.
+fn samples(chip: &Chip, wanted: impl Fn(&Asked, u32) -> bool) -> Vec<Sample> {
     let mut random = Random::new(1);
     let mut samples = Vec::new();
     let mut report = [0; raw::REPORT];
@@ -151,7 +185,7 @@ fn samples(chip: &Chip) -> Vec<Sample> {
         asked.scale = chip.scale as u8;
         let request = requests::typed(&asked);
         let bytes = request.to_bytes(chip);
-        if raw::plan(&bytes, &chip.to_bytes(), &mut report) == 0 {
+        if wanted(&asked, raw::plan(&bytes, &chip.to_bytes(), &mut report)) {
             samples.push(Sample { asked, request, bytes });
         }
     }

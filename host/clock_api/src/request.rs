@@ -90,8 +90,8 @@ pub struct Request {
 impl PllRequest {
     /// The 16 bytes of one PLL's part.
     pub fn to_bytes(&self) -> [u8; raw::PART] {
-        let mut out = Bytes { bytes: [0; 106], len: 0 };
-        out.pll(self);
+        let mut out = Bytes { bytes: [0; 106], len: raw::PART };
+        out.pll(0, self);
         let mut part = [0; raw::PART];
         part.copy_from_slice(&out);
         part
@@ -140,43 +140,46 @@ impl Deref for Bytes {
     }
 }
 
+/// Each thing is written at its place, which is a number: nothing is counted on the way.
 impl Bytes {
-    fn push(&mut self, byte: u8) {
-        self.bytes[self.len] = byte;
-        self.len += 1;
+    #[inline]
+    fn hertz(&mut self, at: usize, hertz: Option<u32>) {
+        self.bytes[at] = hertz.is_some() as u8;
+        self.bytes[at + 1..at + 5].copy_from_slice(&hertz.unwrap_or(0).to_le_bytes());
     }
 
-    fn hertz(&mut self, hertz: Option<u32>) {
-        self.push(hertz.is_some() as u8);
-        for byte in hertz.unwrap_or(0).to_le_bytes() {
-            self.push(byte);
-        }
-    }
-
-    fn pll(&mut self, pll: &PllRequest) {
-        self.push(pll.strategy as u8);
-        for hertz in [pll.p, pll.q, pll.r] {
-            self.hertz(hertz);
-        }
+    #[inline]
+    fn pll(&mut self, at: usize, pll: &PllRequest) {
+        self.bytes[at] = pll.strategy as u8;
+        self.hertz(at + 1, pll.p);
+        self.hertz(at + 6, pll.q);
+        self.hertz(at + 11, pll.r);
     }
 }
 
 impl Request {
     /// The byte form for a chip: with a PLL3 part if the chip has three PLLs, or if something is asked of the third.
     pub fn to_bytes(&self, chip: &Chip) -> Bytes {
-        let mut out = Bytes { bytes: [0; 106], len: 0 };
-        let buses = [self.ahb, self.apb[0], self.apb[1], self.apb[2]];
-        for hertz in [self.hse, self.lse, self.audio, self.system, self.peripheral].into_iter().chain(buses) {
-            out.hertz(hertz);
-        }
-        out.push(self.hse_bypass as u8);
-        out.push(self.mco1_source as u8);
-        out.hertz(self.mco1);
-        out.push(self.mco2_source as u8);
-        out.hertz(self.mco2);
         let third = chip.plls == Plls::Three || self.plls[2] != PllRequest::default();
-        for pll in &self.plls[..if third { 3 } else { 2 }] {
-            out.pll(pll);
+        let mut out = Bytes { bytes: [0; 106], len: if third { 106 } else { 90 } };
+        out.hertz(0, self.hse);
+        out.hertz(5, self.lse);
+        out.hertz(10, self.audio);
+        out.hertz(15, self.system);
+        out.hertz(20, self.peripheral);
+        out.hertz(25, self.ahb);
+        out.hertz(30, self.apb[0]);
+        out.hertz(35, self.apb[1]);
+        out.hertz(40, self.apb[2]);
+        out.bytes[45] = self.hse_bypass as u8;
+        out.bytes[46] = self.mco1_source as u8;
+        out.hertz(47, self.mco1);
+        out.bytes[52] = self.mco2_source as u8;
+        out.hertz(53, self.mco2);
+        out.pll(58, &self.plls[0]);
+        out.pll(74, &self.plls[1]);
+        if third {
+            out.pll(90, &self.plls[2]);
         }
         out
     }
