@@ -101,11 +101,7 @@ fn table(chip: &Chip, quiet: &Quiet, rounds: u32) {
                     keep(&raw::plan_bank(&bytes, &numbers, &mut clocks, &mut registers.words))
                 })
             },
-            &mut || {
-                samples
-                    .iter()
-                    .for_each(|sample| keep(&raw::plan_bank(&sample.bytes, &numbers, &mut report_too, &mut bank_too.words)))
-            },
+            &mut || samples.iter().for_each(|sample| keep(&raw::plan_bank(&sample.bytes, &numbers, &mut report_too, &mut bank_too.words))),
             &mut || samples.iter().for_each(|sample| keep(&raw::plan(&sample.bytes, &numbers, &mut report))),
             &mut || samples.iter().for_each(|sample| keep(&raw::bank(&sample.bytes, &numbers, &mut bank.words))),
             &mut || samples.iter().for_each(|sample| keep(&raw::entries(&sample.bytes, &numbers, &mut list))),
