@@ -155,16 +155,9 @@ fn divider_p(target: u32, h: Hertz) -> u32
 fn rge_of(reference: u32) -> u32
     ensures { λ r. ⌜ r ≡ Rules.rgeOf reference ⌝ }
 {
-    if reference < 2_000_000 {
-        return 0;
-    }
-    if reference < 4_000_000 {
-        return 1;
-    }
-    if reference < 8_000_000 {
-        return 2;
-    }
-    3
+    (2_000_000 <= reference) as u32
+        + (4_000_000 <= reference) as u32
+        + (8_000_000 <= reference) as u32
 }
 
 // An output's divider and hertz.
