@@ -1,1 +1,4 @@
+pub mod Showing
+pub mod Segments
 pub mod Listed
+pub mod Walked

@@ -1,68 +1,105 @@
--- A list stored entry by entry: what holds after i entries, at the beginning, one entry on, and at the end.
-use mathlib.Core.Path.{_≡_, refl, _∙_, sym}
-use mathlib.Core.List.{List, [], _∷_}
-use Prim.Native.Nat.{ℕ, zero, suc, _+_, _*_, _≤_, _<_}
+-- With no values read a list is stored: each entry once, behind the word that counts them.
+use mathlib.Core.Path.{_≡_, refl, _∙_, sym, ap}
+use mathlib.Core.Bool.{Bool, true, false, cond}
+use mathlib.Core.List.{List, [], _∷_, _++_, append-nil}
+use Prim.Native.Nat.{ℕ, zero, suc, _+_, _*_, _-_, _/_, _≤_, _<_}
 use native.Mathlib.Omega.{arith}
-use lib.ListN.{length, drop, set, length-set}
+use borrow.Author.Tests.{lt-ltb, le-ltb, le-leb, lt-leb, ltb-true, ltb-false, leb-true, leb-false}
+use lib.Dec.{ltb, leb}
+use lib.ListN.{length, set, take, drop}
 use Rattle.types.specs.declared.Entry.{Entry}
-use Rattle.rules.specs.Words.{storedAt, listedFrom, listed}
+use Rattle.rules.specs.Words.{entryWords, nineAt, storedAt, listedFrom, listed}
 use Rattle.rules.proofs.Document01.Run.{stored-length}
-use Rattle.entries.specs.declared.EntryAt.{EntryAt}
-use Rattle.entries.specs.declared.EntryAt.the-variants.{Is}
-use Rattle.entries.specs.Place.{entryAt}
-use Rattle.listing.specs.Listing.{placeWords}
+use Rattle.listing.specs.Showing.{Showing, showing, storedIn, showOne, showAll, Ends}
+use Rattle.listing.specs.declared.Place.{Place}
+use Rattle.listing.proofs.Showing.{all-read, passed, stored-in-length}
 
--- the entry at a place, and what is left from there
-record Here (es : List Entry) (i : ℕ) : Type 0 where
-  entry : Entry
-  left : drop i es ≡ entry ∷ drop (suc i) es
-  place : entryAt es i ≡ Is entry
+-- behind the first word
+module _ (c : ℕ) (b : List ℕ) (i : ℕ) (w : List ℕ) where
+  behind-by : (t : Bool) → leb (i + 9) (length b) ≡ t → c ∷ storedAt b i w ≡ storedAt (c ∷ b) (suc i) w
+  unfolding storedAt
+  behind-by true h =
+      let m = leb-true (i + 9) (length b) h in
+      let a1 : suc i + 1 ≡ suc (i + 1) = omega arith in
+      let a2 : suc i + 2 ≡ suc (i + 2) = omega arith in
+      let a3 : suc i + 3 ≡ suc (i + 3) = omega arith in
+      let a4 : suc (i + 3) + 1 ≡ suc (i + 3 + 1) = omega arith in
+      let a5 : suc (i + 3) + 2 ≡ suc (i + 3 + 2) = omega arith in
+      let a6 : suc i + 6 ≡ suc (i + 6) = omega arith in
+      let a7 : suc (i + 6) + 1 ≡ suc (i + 6 + 1) = omega arith in
+      let a8 : suc (i + 6) + 2 ≡ suc (i + 6 + 2) = omega arith in
+      rw (h, le-leb (suc i + 9) (suc (length b)) (omega arith), a1, a2, a3, a4, a5, a6, a7, a8)
+  behind-by false h = let m = leb-false (i + 9) (length b) h in rw (h, lt-leb (suc i + 9) (suc (length b)) (omega arith))
 
-here : (es : List Entry) (i : ℕ) → i < length es → Here es i
-here [] i h = absurd (omega arith)
-here (e ∷ es) zero h = record { entry = e; left = refl; place = refl }
-here (e ∷ es) (suc i) h = let r = here es i (omega arith) in record { entry = r .entry; left = r .left; place = r .place }
+  behind : c ∷ storedAt b i w ≡ storedAt (c ∷ b) (i + 1) w
+  behind = let l : i + 1 ≡ suc i = omega arith in rw l (behind-by (leb (i + 9) (length b)) refl)
 
-drop-all : (es : List Entry) → drop (length es) es ≡ []
+-- the n things that have room are those that fit
+in-room : (n i : ℕ) (w b : List ℕ) → n ≡ length b / 9 → storedIn n i w b ≡ storedAt b (9 * i) w
+unfolding storedIn storedAt
+in-room n i w b e = go (ltb i n) refl
+  where
+    go : (t : Bool) → ltb i n ≡ t → storedIn n i w b ≡ storedAt b (9 * i) w
+    go true h = let l = ltb-true i n h in rw (h, le-leb (9 * i + 9) (length b) (omega arith))
+    go false h = let l = ltb-false i n h in rw (h, lt-leb (9 * i + 9) (length b) (omega arith))
+
+-- so a list that is shown is stored
+shown-listed : (es : List Entry) (n i c : ℕ) (b : List ℕ) → n ≡ length b / 9
+    → (c ∷ showAll [] n es (showing i b) .room ≡ listedFrom (c ∷ b) (9 * i + 1) es) × (showAll [] n es (showing i b) .at ≡ i + length es)
+shown-listed [] n i c b e = (refl, omega arith)
+shown-listed (x ∷ es) n i c b e =
+    let w = entryWords x in
+    let b₂ = storedAt b (9 * i) w in
+    let s : showOne [] n x (showing i b) ≡ showing (i + 1) b₂ = passed [] n x i b (all-read [] i x (omega arith)) ∙ ap (λ z. showing (i + 1) z) (in-room n i w b e) in
+    let r = shown-listed es n (i + 1) c b₂ (e ∙ ap (λ z. z / 9) (sym (stored-length b (9 * i) w))) in
+    let m : 9 * (i + 1) + 1 ≡ 9 * i + 1 + 9 = omega arith in
+    let q = r .1 in
+    let l = ap (λ z. showAll [] n es z .at) s in (
+      ap (λ z. c ∷ showAll [] n es z .room) s ∙ r .0 ∙ ap (λ z. listedFrom z (9 * (i + 1) + 1) es) (behind c b (9 * i) w) ∙ ap (λ z. listedFrom (storedAt (c ∷ b) (9 * i + 1) w) z es) m,
+      l ∙ q ∙ omega arith,
+    )
+
+-- ---- the whole list
+none-stored : (i : ℕ) (w : List ℕ) → storedAt [] i w ≡ []
+unfolding storedAt
+none-stored i w = rw (lt-leb (i + 9) 0 (omega arith))
+
+none-listed : (es : List Entry) (i : ℕ) → [] ≡ listedFrom [] i es
+none-listed [] i = refl
+none-listed (e ∷ es) i = rw (none-stored i (entryWords e)) (none-listed es (i + 9))
+
+pub no-list : (es : List Entry) (b : List ℕ) → length b ≡ 0 → b ≡ listed es b
+no-list es (x ∷ b) h = absurd (omega arith)
+no-list es [] h = none-listed es 1
+
+take-all : (b : List ℕ) → take (length b) b ≡ b
+take-all [] = refl
+take-all (x ∷ b) = ap (x ∷_) (take-all b)
+
+drop-all : (b : List ℕ) → drop (length b) b ≡ []
 drop-all [] = refl
-drop-all (e ∷ es) = drop-all es
+drop-all (x ∷ b) = drop-all b
 
--- after i entries: what is left to store comes to the whole list
-pub record Going (es : List Entry) (list₀ : List ℕ) (n : ℕ) (list : List ℕ) (i : ℕ) : Type 0 where
-  pub below : i ≤ n
-  pub count : n ≡ length es
-  pub left : listedFrom list (9 * i + 1) (drop i es) ≡ listedFrom list₀ 1 es
-  pub same : length list ≡ length list₀
+module _ (es : List Entry) (n : ℕ) {p : Place} {c : List ℕ} where
+  pub counted : (b : List ℕ) → n ≡ length b / 9 → Ends [] n 69 es 0 b p c → p .at ≡ length es
+  counted b e s = ap (λ z. z .at) (s .shown) ∙ shown-listed es n 0 0 b e .1 ∙ omega arith
 
-module _ (es : List Entry) (list₀ : List ℕ) (n : ℕ) where
-  pub begins : n ≡ length es → Going es list₀ n list₀ 0
-  begins e = record { below = omega arith; count = e; left = refl; same = refl }
+  by-list : (b : List ℕ) → n ≡ length b / 9 → Ends [] n 69 es 0 b p c → p .at ∷ c ≡ listedFrom (length es ∷ b) 1 es
+  by-list b e s = rw (counted b e s) (ap (λ z. length es ∷ z .room) (s .shown) ∙ shown-listed es n 0 (length es) b e .0)
 
-  module _ {list : List ℕ} {i : ℕ} (g : Going es list₀ n list i) where
-    pub goes-on : i < n → {next words : List ℕ} {p : EntryAt} → words ≡ placeWords p → p ≡ entryAt es i → next ≡ storedAt list (9 * i + 1) words → Going es list₀ n next (i + 1)
-    goes-on h w e f =
-        let c = g .count in
-        let r = here es i (omega arith) in
-        let k : i + 1 ≡ suc i = omega arith in
-        let m : 9 * suc i + 1 ≡ 9 * i + 1 + 9 = omega arith in
-        record {
-          below = omega arith;
-          count = c;
-          left = rw (k, m, f, w, e, r .place) (sym (rw (r .left)) ∙ g .left);
-          same = rw f (stored-length list (9 * i + 1) _ ∙ g .same);
-        }
+  -- the part behind the first word, and then the count
+  pub whole : (list : List ℕ) → (length list ≡ 0 → ⊥) → n ≡ (length list - 1) / 9 → Ends [] n 69 es 0 (take (length list - 1) (drop 1 list)) p c
+      → set (take 1 list ++ (c ++ drop (length list - 1) (drop 1 list))) 0 (p .at) ≡ listed es list
+  whole [] h e s = absurd (h refl)
+  whole (x ∷ b) h e s =
+      let l : length (x ∷ b) - 1 ≡ length b = omega arith in
+      let a : take (length (x ∷ b) - 1) b ≡ b = ap (λ z. take z b) l ∙ take-all b in
+      let d : drop (length (x ∷ b) - 1) b ≡ [] = ap (λ z. drop z b) l ∙ drop-all b in
+      ap (λ z. p .at ∷ (c ++ z)) d ∙ ap (p .at ∷_) (append-nil c) ∙ by-list b (e ∙ ap (λ z. z / 9) l) (rw a at s)
 
-    pub ends : n ≤ i → list ≡ listedFrom list₀ 1 es
-    ends h =
-        let c = g .count in
-        let b = g .below in
-        let l : i ≡ length es = omega arith in
-        let d : drop i es ≡ [] = rw l (drop-all es) in
-        sym (rw d) ∙ g .left
-
--- from the room before the count was stored
-pub whole : (es : List Entry) (room : List ℕ) {list₀ list : List ℕ} {n : ℕ} → n ≡ length es → list₀ ≡ set room 0 n → list ≡ listedFrom list₀ 1 es → list ≡ listed es room
-whole es room e f g = rw (g, f, e)
-
-pub put-length : (room list : List ℕ) (n : ℕ) {list₀ : List ℕ} → list₀ ≡ set room 0 n → length list ≡ length list₀ → length list ≡ length room
-put-length room list n f g = rw (g, f) (length-set room 0 n)
+  pub counted-behind : (list : List ℕ) → (length list ≡ 0 → ⊥) → n ≡ (length list - 1) / 9 → Ends [] n 69 es 0 (take (length list - 1) (drop 1 list)) p c → p .at ≡ length es
+  counted-behind [] h e s = absurd (h refl)
+  counted-behind (x ∷ b) h e s =
+      let l : length (x ∷ b) - 1 ≡ length b = omega arith in
+      let a : take (length (x ∷ b) - 1) b ≡ b = ap (λ z. take z b) l ∙ take-all b in
+      counted b (e ∙ ap (λ z. z / 9) l) (rw a at s)

@@ -1,1 +1,3 @@
-pub mod Listing
+pub mod Showing
+pub mod Segments
+pub mod Walked

@@ -115,12 +115,5 @@ pub fn run(planned: Planned, reads: &[u32], shown: &mut [u32]) -> usize
     ensures count { λ r. ⌜ r ≡ shownCount (length (now (reads .entry))) (length (now (shown .entry))) ⌝ }
     ensures shown { λ r. ⌜ now (shown .exit) ≡ ran steppedOf (freshOf planned) (now (reads .entry)) (now (shown .entry)) r ⌝ }
 {
-    let n = words::shown_count(reads.len(), shown.len());
-    let mut w = fresh(planned);
-    for i in 0..n {
-        words::store_words(shown, 9 * i, words::shown_words(shows(w)));
-        let k = 2 * i;
-        w = stepped(w, fields::word(reads, k), fields::word(reads, k + 1));
-    }
-    n
+    listing::show_walk(planned, reads, shown)
 }

@@ -1,0 +1,28 @@
+-- `listing::parts::which` meets its contract.
+use native.Mathlib.Omega.{arith}
+use borrow.Author.Needs.{needs}
+use Rattle.listing.proofs.parts.which.Tie as tie
+
+mul-result : tie.Need-mul-result
+mul-result c = search needs
+
+add-result : tie.Need-add-result
+add-result c = search needs
+
+mul-result-2 : tie.Need-mul-result-2
+mul-result-2 c = search needs
+
+add-result-2 : tie.Need-add-result-2
+add-result-2 c = search needs
+
+returns : tie.Need-returns
+returns c =
+    let x = c .before .before .started .ensures in
+    let y = c .before .started2 .ensures in
+    let z = c .started3 .ensures in
+    (rw (x .0, y .0, z .0), omega arith)
+
+pub which-spec : {M : Type 1} → Rattle.listing.proofs.parts.which.Statement.statement M
+which-spec =
+    tie.close (tie.spec (λ c. search needs) (λ c. search needs) (λ c. search needs) (λ c κs. search needs) (λ c κs. search needs) mul-result
+    add-result (λ c κs. search needs) mul-result-2 add-result-2 returns)
