@@ -26,9 +26,8 @@ pub fn store_list(x: Planned, list: &mut [u32])
     ensures { λ r. ⌜ now (list .exit) ≡ listed (entriesOf x) (now (list .entry)) ⌝ }
 {
     let answer = x.answer;
-    let plan = x.plan;
     match answer {
-        Answer::Accepted => store_plan(plan, list),
+        Answer::Accepted => store_plan(x.plan, list),
         Answer::Refused(_) => fields::put(0, 0, list),
     }
 }
@@ -77,10 +76,9 @@ fn show_list(x: Planned, n: usize, reads: &[u32], out: &mut [u32]) -> End
     ensures { λ r. ⌜ Led (x .answer) (entriesOf x) n (now (reads .entry)) (now (out .entry)) r (now (out .exit)) ⌝ }
 {
     let answer = x.answer;
-    let plan = x.plan;
     match answer {
         Answer::Accepted => {
-            let p = show_plan(plan, n, reads, out);
+            let p = show_plan(x.plan, n, reads, out);
             if p.down {
                 return End {
                     at: p.at,

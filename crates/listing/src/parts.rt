@@ -5,6 +5,7 @@ ghost use Prim.Native.Nat.{_<_, _≤_};
 ghost use lib.ListN.{length};
 ghost use Rattle.types.specs.declared.Entry.the-variants.{Check};
 ghost use Rattle.rules.specs.Document01.Fields;
+ghost use Rattle.rules.specs.Document01.OnePll.{pllFrom};
 ghost use Rattle.rules.specs.Document01.Entries.{outputEntries, fractionEntries, baseEntries, settingEntries, setupEntries, hseEntries, sourceEntries, setups, clockEntries, busEntries};
 ghost use Rattle.listing.specs.Showing.{Fits, Sets, Shows, Ends};
 ghost use Rattle.listing.specs.Segments.{dividerEntries, enableOf, flashEntries, oscillatorEntries, startOf, startMask, startIn, startsIn, prescalerEntries, cellEntries};
@@ -241,17 +242,23 @@ fn started(x: Pll) -> u32
     }
 }
 
+// PLL k of three.
+fn pll(plls: [PllPlan; 3], k: usize) -> Pll
+    requires { ⌜ k < 3 ⌝ }
+    ensures { λ r. ⌜ r ≡ pllFrom plls k ⌝ }
+{
+    let a = plls[k];
+    a.pll
+}
+
 // Which are: 1 for PLL1, 2 for PLL2, 4 for PLL3.
 pub fn which(plls: [PllPlan; 3]) -> u32
     ensures { λ r. ⌜ (r ≡ startMask plls) × (r < 8) ⌝ }
 {
-    let a = plls[0];
-    let b = plls[1];
-    let c = plls[2];
-    let x = a.pll;
-    let y = b.pll;
-    let z = c.pll;
-    started(x) + 2 * started(y) + 4 * started(z)
+    let a = started(pll(plls, 0));
+    let b = started(pll(plls, 1));
+    let c = started(pll(plls, 2));
+    a + 2 * b + 4 * c
 }
 
 // A PLL is started: ON, wait RDY.

@@ -17,12 +17,12 @@ add-result-2 c = search needs
 
 returns : tie.Need-returns
 returns c =
-    let x = c .before .before .started .ensures in
-    let y = c .before .started2 .ensures in
+    let x = c .before .before .before .before .started .ensures in
+    let y = c .before .before .started2 .ensures in
     let z = c .started3 .ensures in
-    (rw (x .0, y .0, z .0), omega arith)
+    (rw (x .0, y .0, z .0, c .before .before .before .before .before .pll .ensures, c .before .before .before .pll2 .ensures, c .before .pll3 .ensures), omega arith)
 
 pub which-spec : {M : Type 1} → Rattle.listing.proofs.parts.which.Statement.statement M
 which-spec =
-    tie.close (tie.spec (λ c. search needs) (λ c. search needs) (λ c. search needs) (λ c κs. search needs) (λ c κs. search needs) mul-result
-    add-result (λ c κs. search needs) mul-result-2 add-result-2 returns)
+    tie.close (tie.spec (λ c κs. search needs) (λ c κs. search needs) (λ c κs. search needs) (λ c κs. search needs) (λ c κs. search needs)
+    (λ c κs. search needs) mul-result add-result mul-result-2 add-result-2 returns)
