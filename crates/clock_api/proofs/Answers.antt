@@ -1,5 +1,5 @@
 -- What the C functions answer and leave, case by case: a plan, a refusal.
-use mathlib.Core.Path.{_≡_, refl}
+use mathlib.Core.Path.{_≡_, refl, ap}
 use mathlib.Core.Bool.{Bool, true, false, cond, _&&_}
 use mathlib.Core.List.{List}
 use Prim.Native.Nat.{ℕ}
@@ -9,6 +9,7 @@ use lib.ListN.{length}
 use borrow.Author.Tests.{eqb-true}
 use Rattle.laws.proofs.Tests.{by-test}
 use Rattle.types.specs.declared.Refusal.{Refusal}
+use Rattle.types.specs.declared.Refusal.the-variants.{OutsideCodes}
 use Rattle.types.specs.declared.Answer.{Answer}
 use Rattle.types.specs.declared.Answer.the-variants.{Accepted, Refused}
 use Rattle.types.specs.declared.Planned.{Planned}
@@ -37,13 +38,13 @@ module _ (x : Planned) (room : List ℕ) {n : Refusal} {k : ℕ} where
   list-kept a e = rw a (e, refl)
 
 -- a plan is answered only where the lent slice has its length
+never : (a : Answer) → a ≡ Refused OutsideCodes → a ≡ Accepted → ⊥
+never a e f = let z : _≡_ {A = ℕ} 0 1 = cc in omega arith
+
 planned-fits : (t : Bool) (n : ℕ) (p : Planned) {x : Planned} → x ≡ cond (t && eqb n 55) p outside → x .answer ≡ Accepted → n ≡ 55
-planned-fits true n p e a =
-    by-test (eqb n 55) (λ (h : eqb n 55 ≡ true). eqb-true n 55 h) (λ (h : eqb n 55 ≡ false). absurd (refused (rw h at e) a))
-  where
-    refused : {x : Planned} → x ≡ outside → x .answer ≡ Accepted → ⊥
-    refused e a = let z : _≡_ {A = ℕ} 0 1 = cc in omega arith
-planned-fits false n p e a = absurd (let z : _≡_ {A = ℕ} 0 1 = cc in omega arith)
+planned-fits true n p {x} e a =
+    by-test (eqb n 55) (λ (h : eqb n 55 ≡ true). eqb-true n 55 h) (λ (h : eqb n 55 ≡ false). absurd (never (x .answer) (ap (λ (z : Planned). z .answer) (rw h at e)) a))
+planned-fits false n p {x} e a = absurd (never (x .answer) (ap (λ (z : Planned). z .answer) e) a)
 
 module _ (request chip : List ℕ) (n : ℕ) {x : Planned} where
   pub asked-fits : x ≡ askedOf request chip (eqb n 55) → x .answer ≡ Accepted → n ≡ 55
