@@ -1,41 +1,56 @@
 -- `pll::choice::reference` meets its contract.
-use Rattle.laws.proofs.Numbers.{div-anti, div-le, to-reciprocal, by-reciprocal}
-use Rattle.pll.specs.Search.{Divides}
+use Rattle.laws.proofs.Numbers.{short, short-below, by-reciprocal}
 use native.Mathlib.Omega.{arith}
-use native.Mathlib.Nat.{div-le-self}
-use Prim.Native.Nat.{ℕ, _+_, _*_, _/_, _≤_, _<_}
-use mathlib.Core.Path.{_≡_}
+use native.Mathlib.Nat.{div-le-self, mul-le-mul-left, mul-one}
+use Prim.Native.Nat.{ℕ, _+_, _-_, _*_, _/_, _≤_, _<_}
+use lib.Dec.{leb}
+use mir.Val.{boolByte}
 use borrow.Author.Needs.{needs}
 use Rattle.pll.proofs.choice.reference.Tie as tie
 
--- the source is below the reciprocal
-small : (source m : ℕ) → Divides source m → source < 68_719_476_736 / m
-small source m d =
-    let q : 68_719_476_736 / 63 ≤ 68_719_476_736 / m = div-anti 68_719_476_736 (d .above) (d .within) in
-    let t = d .to-high in
-    let w = d .within in
-    omega arith
+module _ (n m : ℕ) (o : 1 ≤ m) (l : n ≤ 4_294_967_295) where
+  product : n * (4_294_967_295 / m) < 18_446_744_073_709_551_616
+  product = let b = mul-le-mul-left n (div-le-self 4_294_967_295 m) in omega arith
 
-quotient : (source m : ℕ) → Divides source m → source * (68_719_476_736 / m + 1) / 68_719_476_736 ≡ source / m
-quotient source m d = by-reciprocal source m 68_719_476_736 (d .above) (small source m d)
+  within : n * (4_294_967_295 / m) / 4_294_967_296 ≤ n
+  within =
+      let q = n * (4_294_967_295 / m) / 4_294_967_296 in
+      let b : q * m ≤ n = short-below n m 4_294_967_295 o l in
+      let a : q ≤ q * m = rw mul-one at (mul-le-mul-left q o) in
+      omega arith
 
-product : (source m : ℕ) → Divides source m → source * (68_719_476_736 / m + 1) < 18_446_744_073_709_551_616
-product source m d =
-    let b : source * (68_719_476_736 / m + 1) < (source / m + 1) * 68_719_476_736 = to-reciprocal source m 68_719_476_736 (d .above) (small source m d) in
-    let q : source / m ≤ 16_000_000 = div-le m (d .to-high) in
-    omega arith
+  sum : n * (4_294_967_295 / m) / 4_294_967_296 + boolByte (leb m (n - n * (4_294_967_295 / m) / 4_294_967_296 * m)) ≤ n
+  sum = rw (by-reciprocal n m 4_294_967_295 o l) (div-le-self n m)
+
+mul-scaled : tie.Need-mul-scaled
+mul-scaled c =
+    let s = c .before in
+    record { fits = rw (c .reciprocal .ensures) (product (s .args .source) (s .args .m) (s .pre .0) (omega (arith, s .fits .source .fits))) }
+
+cast-q : tie.Need-cast-q
+cast-q c =
+    let s = c .before in
+    record { fits = rw (c .reciprocal .ensures) (let w = within (s .args .source) (s .args .m) (s .pre .0) (omega (arith, s .fits .source .fits)) in omega (arith, s .fits .source .fits)) }
 
 mul-result : tie.Need-mul-result
-mul-result c = record { fits = rw (c .reciprocal .ensures) (product _ _ (c .before .pre)) }
+mul-result c =
+    let s = c .before in
+    record { fits = rw (c .reciprocal .ensures) (let w = short-below (s .args .source) (s .args .m) 4_294_967_295 (s .pre .0) (omega (arith, s .fits .source .fits)) in omega (arith, s .fits .source .fits)) }
 
-cast-result : tie.Need-cast-result
-cast-result c =
-    let a = c .before .args in
-    let q = div-le-self (a .source) (a .m) in
-    record { fits = rw (c .reciprocal .ensures, quotient _ _ (c .before .pre)) (omega (arith, c .before .fits .source .fits)) }
+sub-result : tie.Need-sub-result
+sub-result c =
+    let s = c .before in
+    rw (c .reciprocal .ensures) (short-below (s .args .source) (s .args .m) 4_294_967_295 (s .pre .0) (omega (arith, s .fits .source .fits)))
+
+add-result : tie.Need-add-result
+add-result c =
+    let s = c .before in
+    record { fits = rw (c .reciprocal .ensures) (let w = sum (s .args .source) (s .args .m) (s .pre .0) (omega (arith, s .fits .source .fits)) in omega (arith, s .fits .source .fits)) }
 
 returns : tie.Need-returns
-returns c = rw (c .reciprocal .ensures) (quotient _ _ (c .before .pre))
+returns c =
+    let s = c .before in
+    rw (c .reciprocal .ensures) (by-reciprocal (s .args .source) (s .args .m) 4_294_967_295 (s .pre .0) (omega (arith, s .fits .source .fits)))
 
 pub reference-spec : {M : Type 1} → Rattle.pll.proofs.choice.reference.Statement.statement M
-reference-spec = tie.close (tie.spec (λ c κs. search needs) mul-result cast-result returns)
+reference-spec = tie.close (tie.spec (λ c κs. search needs) (λ c. search needs) mul-scaled cast-q mul-result sub-result (λ c. search needs) add-result returns)
