@@ -17,15 +17,13 @@ use Rattle.types.specs.declared.Answer.the-variants.{Accepted, Refused}
 use Rattle.types.specs.declared.Plan.{Plan}
 use Rattle.types.specs.declared.Planned.{Planned}
 use Rattle.rules.specs.Document01.Entries.{planEntries, answerEntries, entriesOf}
-use Rattle.rules.specs.Document01.Refusals.{numberOf}
 use Rattle.rules.specs.Document01.Walk.{Stand, before, ended, shownOf, passes, isCheck, steppedOf, freshBy, freshOf}
 use Rattle.rules.specs.Words.{entryWords, shownWords, storedAt, standAfter, ran, shownCount}
 use Rattle.rules.proofs.Document01.Run.{stored-length}
 use Rattle.listing.specs.Showing.{Showing, showing, storedIn, seen, passedAt, once, showOne, showAll, Fits, Ends}
-use Rattle.listing.specs.Walked.{filled, lastRead, endOf, Led}
+use Rattle.listing.specs.Walked.{filled, lastRead, endOf}
 use Rattle.listing.specs.declared.Place.{Place}
-use Rattle.listing.specs.declared.End.{End}
-use Rattle.listing.proofs.Showing.{not-passed, one-step, ended-stays, all-length}
+use Rattle.listing.proofs.Showing.{not-passed, one-step, ended-stays}
 
 module _ (s₀ : Stand) (reads room₀ : List ℕ) (n : ℕ) (enough : lastRead n ≤ length reads) where
   abbrev those : List ℕ
@@ -159,34 +157,16 @@ stays Accepted true c d = refl
 stays Accepted false c d = refl
 stays (Refused r) down c d = refl
 
-pub walked : (x : Planned) (reads room : List ℕ) (n : ℕ) → lastRead n ≤ length reads → {r : End} {after final : List ℕ} → Led (x .answer) (entriesOf x) n (take (lastRead n) reads) room r after
-    → final ≡ filled (n - r .at) (r .at) (r .kind ∷ r .number ∷ 0 ∷ 0 ∷ 0 ∷ 0 ∷ 0 ∷ 0 ∷ 0 ∷ []) after → final ≡ ran steppedOf (freshOf x) reads room n
+pub walked : (x : Planned) (reads room : List ℕ) (n : ℕ) → lastRead n ≤ length reads → {p : Place} {after final : List ℕ} → Ends (take (lastRead n) reads) n 69 (entriesOf x) 0 room p after
+    → final ≡ filled (n - p .at) (p .at) (shownWords (shownOf (endOf (x .answer) (p .down)))) after → final ≡ ran steppedOf (freshOf x) reads room n
 unfolding entriesOf
-walked x reads room n enough {r} {after} l f =
+walked x reads room n enough l f =
     let s = showAll (take (lastRead n) reads) n (answerEntries (x .answer) (x .plan)) (showing 0 room) in
     let g = all-led (x .answer) (x .plan) reads room n enough in
-    f ∙ rw (l .words, l .place, l .room)
-    (fill-led (freshOf x) reads room n enough (endOf (x .answer) (s .down)) (shownWords (shownOf (endOf (x .answer) (s .down)))) refl (stays (x .answer) (s .down)) (n - s .at) (s .at) (s .room) refl (record { going = g .going; full = g .full }))
-
--- ---- where the walk over the list ends
-module _ {es : List Entry} {n : ℕ} {reads b : List ℕ} {p : Place} {c : List ℕ} (e : Ends reads n 69 es 0 b p c) where
-  pub led-down : p .down ≡ true → Led Accepted es n reads b (record { at = p .at; kind = 5; number = 24 }) c
-  led-down h =
-      let d : showAll reads n es (showing 0 b) .down ≡ true = sym (ap (λ z. z .down) (e .shown)) ∙ h in
-      record { room = ap (λ z. z .room) (e .shown); place = ap (λ z. z .at) (e .shown); words = rw d }
-
-  pub led-through : p .down ≡ false → Led Accepted es n reads b (record { at = p .at; kind = 0; number = 0 }) c
-  led-through h =
-      let d : showAll reads n es (showing 0 b) .down ≡ false = sym (ap (λ z. z .down) (e .shown)) ∙ h in
-      record { room = ap (λ z. z .room) (e .shown); place = ap (λ z. z .at) (e .shown); words = rw d }
-
-pub led-refused : (r : Refusal) (n : ℕ) (reads b : List ℕ) {number : ℕ} → number ≡ numberOf r → Led (Refused r) [] n reads b (record { at = 0; kind = 5; number = number }) b
-led-refused r n reads b e = record { room = refl; place = refl; words = rw e }
+    f ∙ ap (λ z. filled (n - z .at) (z .at) (shownWords (shownOf (endOf (x .answer) (z .down)))) (z .room)) (l .shown)
+    ∙ fill-led (freshOf x) reads room n enough (endOf (x .answer) (s .down)) (shownWords (shownOf (endOf (x .answer) (s .down)))) refl (stays (x .answer) (s .down)) (n - s .at) (s .at) (s .room) refl (record { going = g .going; full = g .full })
 
 -- ---- lengths
-pub led-length : {a : Answer} {es : List Entry} {n : ℕ} {reads b : List ℕ} {r : End} {c : List ℕ} → Led a es n reads b r c → length c ≡ length b
-led-length {a} {es} {n} {reads} {b} l = ap length (l .room) ∙ all-length reads n es (showing 0 b)
-
 pub filled-length : (k i : ℕ) (w room : List ℕ) → length (filled k i w room) ≡ length room
 filled-length zero i w room = refl
 filled-length (suc k) i w room = filled-length k (i + 1) w (storedAt room (9 * i) w) ∙ stored-length room (9 * i) w

@@ -4,10 +4,10 @@ ghost use mathlib.Core.List.{[], _∷_};
 ghost use Prim.Native.Nat.{_≤_, _*_, _-_};
 ghost use lib.ListN.{length};
 ghost use Rattle.rules.specs.Document01.Entries.{entriesOf, planEntries};
-ghost use Rattle.rules.specs.Document01.Walk.{steppedOf, freshOf};
-ghost use Rattle.rules.specs.Words.{listed, shownCount, ran};
+ghost use Rattle.rules.specs.Document01.Walk.{steppedOf, freshOf, shownOf};
+ghost use Rattle.rules.specs.Words.{listed, shownWords, shownCount, ran};
 ghost use Rattle.listing.specs.Showing.{far, Ends};
-ghost use Rattle.listing.specs.Walked.{Led, filled, lastRead};
+ghost use Rattle.listing.specs.Walked.{endOf, filled, lastRead};
 use types::Answer;
 use types::Plan;
 use types::Planned;
@@ -21,20 +21,9 @@ pub struct Place {
     pub down: bool,
 }
 
-// The whole list, as far as there is room.
+// The whole list, as far as there is room: no values are read, so each entry is shown once, and they are counted.
 pub fn store_list(x: Planned, list: &mut [u32])
     ensures { λ r. ⌜ now (list .exit) ≡ listed (entriesOf x) (now (list .entry)) ⌝ }
-{
-    let answer = x.answer;
-    match answer {
-        Answer::Accepted => store_plan(x.plan, list),
-        Answer::Refused(_) => fields::put(0, 0, list),
-    }
-}
-
-// That of a plan: no values are read, so each entry is shown once, and they are counted.
-fn store_plan(plan: Plan, list: &mut [u32])
-    ensures { λ r. ⌜ now (list .exit) ≡ listed (planEntries plan) (now (list .entry)) ⌝ }
 {
     let room = list.len();
     if room == 0 {
@@ -42,8 +31,20 @@ fn store_plan(plan: Plan, list: &mut [u32])
     }
     let none: [u32; 0] = [];
     let n = (room - 1) / 9;
-    let p = show_plan(plan, n, &none, &mut list[1..]);
+    let p = show_list(x, n, &none, &mut list[1..]);
     list[0] = p.at as u32;
+}
+
+// What a walk over the list shows until it ends. A refusal has no entries.
+fn show_list(x: Planned, n: usize, reads: &[u32], out: &mut [u32]) -> Place
+    requires { ⌜ 9 * n ≤ length (now out) ⌝ }
+    ensures { λ r. ⌜ Ends (now (reads .entry)) n 69 (entriesOf x) 0 (now (out .entry)) r (now (out .exit)) ⌝ }
+{
+    let answer = x.answer;
+    match answer {
+        Answer::Accepted => show_plan(x.plan, n, reads, out),
+        Answer::Refused(_) => Place { at: 0, down: false },
+    }
 }
 
 // The parts of the whole list, in order.
@@ -63,42 +64,29 @@ fn show_plan(plan: Plan, n: usize, reads: &[u32], out: &mut [u32]) -> Place
     parts::buses(plan.buses, plan.selectors, e, n, reads, out)
 }
 
-// Where a walk comes to its end, and what it shows from there on.
+// What a walk shows at its end.
 struct End {
-    at: usize,
     kind: u32,
     number: u32,
 }
 
-// A walk over the list until it is finished or ended by a refusal.
-fn show_list(x: Planned, n: usize, reads: &[u32], out: &mut [u32]) -> End
-    requires { ⌜ 9 * n ≤ length (now out) ⌝ }
-    ensures { λ r. ⌜ Led (x .answer) (entriesOf x) n (now (reads .entry)) (now (out .entry)) r (now (out .exit)) ⌝ }
+// By the answer, and whether the check has ended the list.
+fn last_words(a: Answer, down: bool) -> End
+    ensures { λ r. ⌜ r .kind ∷ r .number ∷ 0 ∷ 0 ∷ 0 ∷ 0 ∷ 0 ∷ 0 ∷ 0 ∷ [] ≡ shownWords (shownOf (endOf a down)) ⌝ }
 {
-    let answer = x.answer;
-    match answer {
+    match a {
         Answer::Accepted => {
-            let p = show_plan(x.plan, n, reads, out);
-            if p.down {
+            if down {
                 return End {
-                    at: p.at,
                     kind: 5,
                     number: 24,
                 };
             }
-            End {
-                at: p.at,
-                kind: 0,
-                number: 0,
-            }
+            End { kind: 0, number: 0 }
         }
         Answer::Refused(r) => {
             let number = refusal::number_of(r);
-            End {
-                at: 0,
-                kind: 5,
-                number,
-            }
+            End { kind: 5, number }
         }
     }
 }
@@ -111,6 +99,15 @@ fn fill(kind: u32, number: u32, i: usize, n: usize, out: &mut [u32])
     for k in i..n {
         shows::nine(kind, number, 0, 0, 0, 0, 0, 0, 0, k, n, out);
     }
+}
+
+// The end of a walk shown from place p on.
+fn finish(a: Answer, p: Place, n: usize, out: &mut [u32])
+    requires { ⌜ 9 * n ≤ length (now out) ⌝ }
+    ensures { λ r. ⌜ now (out .exit) ≡ filled (n - p .at) (p .at) (shownWords (shownOf (endOf a (p .down)))) (now (out .entry)) ⌝ }
+{
+    let e = last_words(a, p.down);
+    fill(e.kind, e.number, p.at, n, out);
 }
 
 // Two values for each step but the last.
@@ -132,7 +129,8 @@ pub fn show_walk(x: Planned, reads: &[u32], shown: &mut [u32]) -> usize
 {
     let n = words::shown_count(reads.len(), shown.len());
     let m = last_read(n);
-    let e = show_list(x, n, &reads[..m], shown);
-    fill(e.kind, e.number, e.at, n, shown);
+    let answer = x.answer;
+    let p = show_list(x, n, &reads[..m], shown);
+    finish(answer, p, n, shown);
     n
 }
