@@ -18,7 +18,7 @@ chipOf plls odd1 odd2 odd3 scale hsion hsidiv = record { plls = plls; odd = odd1
 abbrev pub chipFrom : List ℕ → Chip
 chipFrom c = chipOf (getD c 0 0) (getD c 1 0) (getD c 2 0) (getD c 3 0) (getD c 4 0) (getD c 5 0) (getD c 6 0)
 
--- the chip of 7 bytes, where the lent slice has its length; else one that no rule knows
+-- the chip of 7 bytes, where the lent slice has its length; else one without PLLs, which refusal 1 judges
 unfoldable pub checkedChip : (chip : List ℕ) → (fits : Bool) → Chip
 checkedChip chip fits = cond (eqb (length chip) 7 && fits) (chipFrom chip) (chipOf 0 0 0 0 0 0 0)
 
