@@ -1,25 +1,16 @@
--- The parts as they are shown come to the list, and what holds at the test of the two loops over the PLLs.
+-- What holds at the test of the two loops over the PLLs, and that the mask comes to the starts.
 use mathlib.Core.Path.{_≡_, refl, _∙_, sym, ap}
 use mathlib.Core.List.{List, [], _∷_, _++_, append-nil}
 use Prim.Native.Nat.{ℕ, zero, suc, _+_, _*_, _-_, _/_, _%_, _≤_, _<_}
 use native.Mathlib.Omega.{arith}
 use lib.ListN.{length}
 use Rattle.types.specs.declared.Entry.{Entry}
-use Rattle.types.specs.declared.Entry.the-variants.{Set}
-use Rattle.types.specs.declared.PllOutput.{PllOutput}
-use Rattle.types.specs.declared.PllOutput.the-variants.{Off, On}
-use Rattle.types.specs.declared.Pll.{Pll}
-use Rattle.types.specs.declared.Pll.the-variants.{Idle, Runs}
 use Rattle.types.specs.declared.PllPlan.{PllPlan}
 use Rattle.rules.specs.Document01.OnePll.{pllFrom}
-use Rattle.rules.specs.Document01.Entries.{outputEntries, outputStart, startEntries, starts, setupEntries, setups}
+use Rattle.rules.specs.Document01.Entries.{startEntries, starts, setupEntries, setups}
 use Rattle.listing.specs.Showing.{showing, showAll, far, Fits, Sets, Shows}
-use Rattle.listing.specs.Segments.{dividerEntries, enableOf, startOf, startMask, startIn, startsIn}
+use Rattle.listing.specs.Starts.{startIn, startsIn, Tells}
 use Rattle.listing.proofs.Showing.{shown-append, then, same-room}
-
-pub output-parts : (divider enable : ℕ) (o : PllOutput) → outputEntries divider enable o ≡ dividerEntries divider o ++ (Set enable (enableOf o) ∷ [])
-output-parts divider enable Off = refl
-output-parts divider enable (On d h) = refl
 
 -- ---- the set-ups
 -- those from PLL k on, from 0
@@ -132,23 +123,7 @@ module _ (reads : List ℕ) (n i which : ℕ) (room₀ : List ℕ) where
         let l : left ≡ 0 = omega arith in
         record { shown = sym (rw (l, zeros (g .j) k)) ∙ g .rest; near = omega arith }
 
--- the bits of the mask are the PLLs that are started
-start-bit : (k : ℕ) (x : Pll) → startEntries k x ≡ startIn k (startOf x)
-start-bit k Idle = refl
-start-bit k (Runs s) = go (s .p)
-  where
-    go : (o : PllOutput) → outputStart k o ≡ startIn k (enableOf o)
-    go Off = refl
-    go (On d h) = refl
-
-one-at-most : (x : Pll) → startOf x ≤ 1
-one-at-most Idle = omega arith
-one-at-most (Runs s) = go (s .p)
-  where
-    go : (o : PllOutput) → enableOf o ≤ 1
-    go Off = omega arith
-    go (On d h) = omega arith
-
+-- three bits and the mask that they come to
 module _ (x y z : ℕ) (p : x ≤ 1) (q : y ≤ 1) (r : z ≤ 1) where
   first : (x + 2 * y + 4 * z) % 2 ≡ x
   first = omega arith
@@ -162,12 +137,6 @@ module _ (x y z : ℕ) (p : x ≤ 1) (q : y ≤ 1) (r : z ≤ 1) where
   third : (x + 2 * y + 4 * z) / 2 / 2 % 2 ≡ z
   third = let h : (y + 2 * z) / 2 ≡ z = omega arith in rw (halved, h) (omega arith)
 
-pub mask-starts : (l : List PllPlan) → startsIn 3 0 (startMask l) ≡ starts l
-mask-starts l =
-    let x = startOf (pllFrom l 0) in
-    let y = startOf (pllFrom l 1) in
-    let z = startOf (pllFrom l 2) in
-    let p = one-at-most (pllFrom l 0) in
-    let q = one-at-most (pllFrom l 1) in
-    let r = one-at-most (pllFrom l 2) in
-    rw (first x y z p q r, second x y z p q r, third x y z p q r, append-nil, start-bit 0 (pllFrom l 0), start-bit 1 (pllFrom l 1), start-bit 2 (pllFrom l 2))
+  pub mask-starts : (l : List PllPlan) → Tells x (λ k. startEntries k (pllFrom l 0)) → Tells y (λ k. startEntries k (pllFrom l 1)) → Tells z (λ k. startEntries k (pllFrom l 2))
+      → startsIn 3 0 (x + 2 * y + 4 * z) ≡ starts l
+  mask-starts l f g h = rw (first, second, third, append-nil, f 0, g 1, h 2)

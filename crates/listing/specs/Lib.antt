@@ -1,3 +1,3 @@
 pub mod Showing
-pub mod Segments
+pub mod Starts
 pub mod Walked

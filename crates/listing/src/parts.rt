@@ -6,9 +6,9 @@ ghost use lib.ListN.{length};
 ghost use Rattle.types.specs.declared.Entry.the-variants.{Check};
 ghost use Rattle.rules.specs.Document01.Fields;
 ghost use Rattle.rules.specs.Document01.OnePll.{pllFrom};
-ghost use Rattle.rules.specs.Document01.Entries.{outputEntries, fractionEntries, baseEntries, settingEntries, setupEntries, hseEntries, sourceEntries, setups, clockEntries, busEntries};
+ghost use Rattle.rules.specs.Document01.Entries.{outputEntries, fractionEntries, baseEntries, settingEntries, setupEntries, setups, flashEntries, oscillatorEntries, clockEntries, hseEntries, sourceEntries, outputStart, startEntries, starts, prescalerEntries, checkEntries, cellEntries, busEntries};
 ghost use Rattle.listing.specs.Showing.{Fits, Sets, Shows, Ends};
-ghost use Rattle.listing.specs.Segments.{dividerEntries, enableOf, flashEntries, oscillatorEntries, startOf, startMask, startIn, startsIn, prescalerEntries, cellEntries};
+ghost use Rattle.listing.specs.Starts.{startIn, startsIn, Tells};
 use crate::Place;
 use crate::shows::*;
 use fields::*;
@@ -51,35 +51,18 @@ fn fraction(k: usize, f: Fraction, i: usize, n: usize, out: &mut [u32]) -> usize
     }
 }
 
-// For P, Q, R divider − 1 then enable, or disable alone: the divider.
-fn divider(f: usize, o: PllOutput, i: usize, n: usize, out: &mut [u32]) -> usize
-    requires { ⌜ (f < 82) × Fits n i 1 (length (now out)) ⌝ }
-    ensures { λ r. ⌜ Sets n 1 (dividerEntries f o) i (now (out .entry)) r (now (out .exit)) ⌝ }
-{
-    match o {
-        PllOutput::Off => i,
-        PllOutput::On(d, _) => set(f, less_one(d), i, n, out),
-    }
-}
-
-// The enable bit.
-fn enabled(o: PllOutput) -> u32
-    ensures { λ r. ⌜ (r ≡ enableOf o) × (r ≤ 1) ⌝ }
-{
-    match o {
-        PllOutput::Off => 0,
-        PllOutput::On(_, _) => 1,
-    }
-}
-
-// Both.
+// For P, Q, R divider − 1 then enable, or disable alone.
 fn output(f: usize, enable: usize, o: PllOutput, i: usize, n: usize, out: &mut [u32]) -> usize
     requires { ⌜ ((f < 82) × (enable < 82)) × Fits n i 2 (length (now out)) ⌝ }
     ensures { λ r. ⌜ Sets n 2 (outputEntries f enable o) i (now (out .entry)) r (now (out .exit)) ⌝ }
 {
-    let a = divider(f, o, i, n, out);
-    let e = enabled(o);
-    set(enable, e, a, n, out)
+    match o {
+        PllOutput::Off => set(enable, 0, i, n, out),
+        PllOutput::On(d, _) => {
+            let a = set(f, less_one(d), i, n, out);
+            set(enable, 1, a, n, out)
+        }
+    }
 }
 
 // What sets PLL k up: its base, the fraction, and P, Q, R.
@@ -229,15 +212,25 @@ pub fn sources(three: bool, src: u32, i: usize, n: usize, out: &mut [u32]) -> us
     b
 }
 
+// 1 for an output that is there.
+fn has(o: PllOutput) -> u32
+    ensures { λ r. ⌜ Tells r (λ k. outputStart k o) × (r ≤ 1) ⌝ }
+{
+    match o {
+        PllOutput::Off => 0,
+        PllOutput::On(_, _) => 1,
+    }
+}
+
 // A PLL is started when it has P: 1 for one that is.
 fn started(x: Pll) -> u32
-    ensures { λ r. ⌜ (r ≡ startOf x) × (r ≤ 1) ⌝ }
+    ensures { λ r. ⌜ Tells r (λ k. startEntries k x) × (r ≤ 1) ⌝ }
 {
     match x {
         Pll::Idle => 0,
         Pll::Runs(s) => {
             let p = s.p;
-            enabled(p)
+            has(p)
         }
     }
 }
@@ -253,7 +246,7 @@ fn pll(plls: [PllPlan; 3], k: usize) -> Pll
 
 // Which are: 1 for PLL1, 2 for PLL2, 4 for PLL3.
 pub fn which(plls: [PllPlan; 3]) -> u32
-    ensures { λ r. ⌜ (r ≡ startMask plls) × (r < 8) ⌝ }
+    ensures { λ r. ⌜ (startsIn 3 0 r ≡ starts plls) × (r < 8) ⌝ }
 {
     let a = started(pll(plls, 0));
     let b = started(pll(plls, 1));
@@ -316,7 +309,7 @@ fn prescalers(b: Buses, s: Selectors, i: usize, n: usize, reads: &[u32], out: &m
 // The check of CSIRDY: one that is not met ends the list.
 fn check(i: usize, n: usize, reads: &[u32], out: &mut [u32]) -> Place
     requires { ⌜ Fits n i 1 (length (now out)) ⌝ }
-    ensures { λ r. ⌜ Ends (now (reads .entry)) n 1 (Check Fields.CSIRDY 1 ∷ []) i (now (out .entry)) r (now (out .exit)) ⌝ }
+    ensures { λ r. ⌜ Ends (now (reads .entry)) n 1 checkEntries i (now (out .entry)) r (now (out .exit)) ⌝ }
 {
     let at = nine(3, CSIRDY as u32 + 1, 1, 0, 0, 0, 0, 0, 0, i, n, out);
     let down = other(reads, 2 * i, 1);

@@ -3,7 +3,6 @@ use mathlib.Core.List.{[]}
 use native.Mathlib.Omega.{arith}
 use Rattle.rules.specs.Document01.Entries.{listWith}
 use Rattle.listing.proofs.Showing.{then, then-ends, fits, at-first}
-use Rattle.listing.proofs.Segments.{mask-starts}
 use borrow.Author.Needs.{needs}
 use Rattle.listing.proofs.show_plan.Tie as tie
 
@@ -36,7 +35,7 @@ returns c =
     let x = c .before .before .before .before .before .before .before .before .before .before .before .before .before .before .before .before .before .before .before .before .before .before .before .before .before .before .before .before .before .args in
     let r = x .reads .now in
     then-ends (c .before .before .before .before .before .before .before .before .before .before .before .before .before .before .before .before .before .before .before .before .before .before .set-up-all .ensures r) (then-ends (c .before .before .before .before .before .before .before .before .before .before .before .before .before .before .before .before .before .before .clocks .ensures) (then-ends (c .before .before .before .before .before .before .before .before .before .before .before .before .before .before .hse-on .ensures) (then-ends (c .before .before .before .before .before .before .before .before .before .before .sources .ensures r)
-    (then-ends (rw (c .before .before .before .before .before .before .before .before .before .before .before .before .before .before .before .before .before .before .before .before .before .before .before .before .which .ensures .0, mask-starts (x .plan .plls)) at (c .before .before .before .before .before .before .start-all .ensures)) (c .before .before .buses .ensures)))))
+    (then-ends (rw (c .before .before .before .before .before .before .before .before .before .before .before .before .before .before .before .before .before .before .before .before .before .before .before .before .which .ensures .0) at (c .before .before .before .before .before .before .start-all .ensures)) (c .before .before .buses .ensures)))))
 
 pub show-plan-spec : {M : Type 1} → Rattle.listing.proofs.show_plan.Statement.statement M
 show-plan-spec =

@@ -69,14 +69,22 @@ prftenOf latency = cond (ltb 0 latency) 1 0
 abbrev pub setups : List PllPlan → List Entry
 setups l = setupEntries 0 (pllFrom l 0) ++ (setupEntries 1 (pllFrom l 1) ++ setupEntries 2 (pllFrom l 2))
 
--- LSI, flash, CSI, HSI48 and the MCOs
-unfoldable pub clockEntries : Waits → Selectors → Mcos → List Entry
-clockEntries w s m =
+-- LSI; flash
+abbrev pub flashEntries : Waits → List Entry
+flashEntries w =
     Set Fields.LSION 1 ∷ Wait Fields.LSIRDY 1
-    ∷ Set3 Fields.WRHIGHFREQ (w .delay) Fields.LATENCY (w .latency) Fields.PRFTEN (prftenOf (w .latency)) ∷ Wait Fields.LATENCY (w .latency)
-    ∷ Set Fields.CSION 1 ∷ Wait Fields.CSIRDY 1
+    ∷ Set3 Fields.WRHIGHFREQ (w .delay) Fields.LATENCY (w .latency) Fields.PRFTEN (prftenOf (w .latency)) ∷ Wait Fields.LATENCY (w .latency) ∷ []
+
+-- CSI; HSI48; the MCOs
+abbrev pub oscillatorEntries : Selectors → Mcos → List Entry
+oscillatorEntries s m =
+    Set Fields.CSION 1 ∷ Wait Fields.CSIRDY 1
     ∷ Set Fields.HSI48ON 1 ∷ Wait Fields.HSI48RDY 1
     ∷ Set4 Fields.MCO1SEL (s .mco1sel) Fields.MCO1PRE (m .mco1 .pre) Fields.MCO2SEL (s .mco2sel) Fields.MCO2PRE (m .mco2 .pre) ∷ []
+
+-- LSI, flash, CSI, HSI48 and the MCOs
+unfoldable pub clockEntries : Waits → Selectors → Mcos → List Entry
+clockEntries w s m = flashEntries w ++ oscillatorEntries s m
 
 -- HSEBYP: 1 with bypass
 abbrev pub bit : Bool → ℕ
@@ -93,10 +101,14 @@ abbrev pub sourceEntries : (three : Bool) → (src : ℕ) → List Entry
 sourceEntries true src = Set (ofPll 0 Fields.SRC) src ∷ Set (ofPll 1 Fields.SRC) src ∷ Set (ofPll 2 Fields.SRC) src ∷ []
 sourceEntries false src = Set (ofPll 0 Fields.SRC) src ∷ Set (ofPll 1 Fields.SRC) src ∷ []
 
+-- the start of PLL k: ON, wait RDY
+abbrev pub onEntries : (k : ℕ) → List Entry
+onEntries k = Set (ofPll k Fields.ON) 1 ∷ Wait (ofPll k Fields.RDY) 1 ∷ []
+
 -- a PLL is started when it has P
 abbrev pub outputStart : (k : ℕ) → PllOutput → List Entry
 outputStart k Off = []
-outputStart k (On d h) = Set (ofPll k Fields.ON) 1 ∷ Wait (ofPll k Fields.RDY) 1 ∷ []
+outputStart k (On d h) = onEntries k
 
 -- PLL k, where it runs
 abbrev pub startEntries : (k : ℕ) → Pll → List Entry
@@ -107,16 +119,27 @@ startEntries k (Runs s) = outputStart k (s .p)
 abbrev pub starts : List PllPlan → List Entry
 starts l = startEntries 0 (pllFrom l 0) ++ (startEntries 1 (pllFrom l 1) ++ startEntries 2 (pllFrom l 2))
 
--- the prescalers, the selectors and the compensation cell
-unfoldable pub busEntries : Buses → Selectors → List Entry
-busEntries b s =
+-- the prescalers and the selectors
+abbrev pub prescalerEntries : Buses → Selectors → List Entry
+prescalerEntries b s =
     Set4 Fields.HPRE (b .ahb .pre) Fields.PPRE1 (b .apb1 .pre) Fields.PPRE2 (b .apb2 .pre) Fields.PPRE3 (b .apb3 .pre) ∷ Wait Fields.HPRE (b .ahb .pre)
     ∷ Set Fields.CKPERSEL (s .ckpersel)
     ∷ Set Fields.TIMPRE 0
-    ∷ Set Fields.SW (s .sw) ∷ Wait Fields.SWS (s .sw)
-    ∷ Check Fields.CSIRDY 1
-    ∷ Set Fields.SBSEN 1
+    ∷ Set Fields.SW (s .sw) ∷ Wait Fields.SWS (s .sw) ∷ []
+
+-- the check of CSIRDY
+abbrev pub checkEntries : List Entry
+checkEntries = Check Fields.CSIRDY 1 ∷ []
+
+-- the compensation cell
+abbrev pub cellEntries : List Entry
+cellEntries =
+    Set Fields.SBSEN 1
     ∷ Set4 Fields.EN1 1 Fields.CS1 0 Fields.EN2 1 Fields.CS2 0 ∷ Wait2 Fields.RDY1 1 Fields.RDY2 1 ∷ []
+
+-- the prescalers, the selectors, the check and the compensation cell
+unfoldable pub busEntries : Buses → Selectors → List Entry
+busEntries b s = prescalerEntries b s ++ (checkEntries ++ cellEntries)
 
 -- the whole list of a plan, with these starts
 unfoldable pub listWith : (starts : List PllPlan → List Entry) → Plan → List Entry

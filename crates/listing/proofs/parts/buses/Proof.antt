@@ -1,7 +1,6 @@
 -- `listing::parts::buses` meets its contract.
 use native.Mathlib.Omega.{arith}
-use Rattle.rules.specs.Document01.Entries.{busEntries}
-use Rattle.listing.specs.Segments.{cellEntries}
+use Rattle.rules.specs.Document01.Entries.{cellEntries, busEntries}
 use Rattle.listing.proofs.Showing.{then, then-ends, ended, goes, as-ends}
 use borrow.Author.Needs.{needs}
 use Rattle.listing.proofs.parts.buses.Tie as tie

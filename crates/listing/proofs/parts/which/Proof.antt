@@ -1,5 +1,6 @@
 -- `listing::parts::which` meets its contract.
 use native.Mathlib.Omega.{arith}
+use Rattle.listing.proofs.Segments.{mask-starts}
 use borrow.Author.Needs.{needs}
 use Rattle.listing.proofs.parts.which.Tie as tie
 
@@ -20,7 +21,7 @@ returns c =
     let x = c .before .before .before .before .started .ensures in
     let y = c .before .before .started2 .ensures in
     let z = c .started3 .ensures in
-    (rw (x .0, y .0, z .0, c .before .before .before .before .before .pll .ensures, c .before .before .before .pll2 .ensures, c .before .pll3 .ensures), omega arith)
+    (mask-starts _ _ _ (x .1) (y .1) (z .1) (c .before .before .before .before .before .before .args .plls) (rw (c .before .before .before .before .before .pll .ensures) at (x .0)) (rw (c .before .before .before .pll2 .ensures) at (y .0)) (rw (c .before .pll3 .ensures) at (z .0)), omega arith)
 
 pub which-spec : {M : Type 1} → Rattle.listing.proofs.parts.which.Statement.statement M
 which-spec =
