@@ -3,8 +3,6 @@ ghost use mathlib.Core.Path.{_≡_};
 ghost use lib.ListN.{length};
 ghost use Rattle.rules.specs.Document01.Buses.{ahbOf, apbOf, timerOf};
 ghost use Rattle.rules.specs.Document01.Mco.{mcoOf};
-ghost use Rattle.rules.specs.Document01.Hertz.{isSet, hertzOr};
-ghost use Rattle.rules.specs.Document01.Entries.{bit};
 ghost use Rattle.rules.specs.Answers.{busResult, mcoResult};
 ghost use Rattle.clock_leaves.specs.Leaves.{leafCode, hertzIn, busRoom, mcoRoom, leafFits};
 ghost use mathlib.Core.Bool.{true};
@@ -78,24 +76,6 @@ pub extern "C" fn clock_timer(hclk: u32, ppre: u32) -> u32
     prescaler::timer(hclk, ppre)
 }
 
-fn set_of(h: Hertz) -> u32
-    ensures { λ r. ⌜ r ≡ bit (isSet h) ⌝ }
-{
-    match h {
-        Hertz::Unset => 0,
-        Hertz::Hz(_) => 1,
-    }
-}
-
-fn hertz_of(h: Hertz) -> u32
-    ensures { λ r. ⌜ r ≡ hertzOr h 0 ⌝ }
-{
-    match h {
-        Hertz::Unset => 0,
-        Hertz::Hz(f) => f,
-    }
-}
-
 fn output(x: McoAnswer, out: &mut [u32]) -> u32
     requires { ⌜ length (now out) ≡ 3 ⌝ }
     ensures code { λ r. ⌜ r ≡ leafCode true (mcoResult x) ⌝ }
@@ -105,7 +85,7 @@ fn output(x: McoAnswer, out: &mut [u32]) -> u32
         McoAnswer::Refused(n) => refusal::number_of(n),
         McoAnswer::Prescaled(p) => {
             let clock = p.clock;
-            three(p.pre, set_of(clock), hertz_of(clock), out)
+            three(p.pre, hertz::set_of(clock), hertz::hertz_or(clock, 0), out)
         }
     }
 }

@@ -8,15 +8,6 @@ use types::Mco1Source;
 use types::Mco2Source;
 use types::PllRequest;
 
-pub fn hertz_or(h: Hertz, other: u32) -> u32
-    ensures { λ r. ⌜ r ≡ Hz.hertzOr h other ⌝ }
-{
-    match h {
-        Hertz::Unset => other,
-        Hertz::Hz(f) => f,
-    }
-}
-
 // What is requested, else another.
 pub fn or_else(own: Hertz, other: Hertz) -> Hertz
     ensures { λ r. ⌜ r ≡ Hz.orElse own other ⌝ }

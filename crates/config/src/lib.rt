@@ -43,10 +43,10 @@ pub fn configure(q: Request) -> Configured
     if !limits::stated(hse, source1, source2) {
         return refused(Refusal::McoHseUnstated);
     }
-    let source = fills::hertz_or(hse, 32_000_000);
+    let source = hertz::hertz_or(hse, 32_000_000);
     let mco1 = q.mco1;
     let mco2 = q.mco2;
-    let system = fills::hertz_or(
+    let system = hertz::hertz_or(
         fills::or_else(asked, fills::for_system(source2, mco2)),
         source,
     );

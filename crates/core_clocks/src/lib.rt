@@ -24,7 +24,7 @@ pub fn system_from(needs: bool, source: u32, plls: [PllPlan; 3]) -> u32
     if needs {
         let first = plls[0];
         let pll1 = first.pll;
-        return sources::hertz_or_0(sources::p_clock(pll1));
+        return hertz::hertz_or(sources::p_clock(pll1), 0);
     }
     source
 }

@@ -15,15 +15,6 @@ use types::PllOutput;
 use types::Refusal;
 use types::Selected;
 
-pub fn hertz_or_0(h: Hertz) -> u32
-    ensures { λ r. ⌜ r ≡ Hz.hertzOr h 0 ⌝ }
-{
-    match h {
-        Hertz::Unset => 0,
-        Hertz::Hz(f) => f,
-    }
-}
-
 // An output's clock, where it is on.
 fn clock_of(output: PllOutput) -> Hertz
     ensures { λ r. ⌜ r ≡ Rules.clockOf output ⌝ }
@@ -80,7 +71,7 @@ pub fn mco1_input(source: Mco1Source, hse: Hertz, pll1: Hertz) -> InputAnswer
             return InputAnswer::Refused(Refusal::Mco1Lse);
         }
         Mco1Source::Hse => {
-            return InputAnswer::Clock(hertz_or_0(hse));
+            return InputAnswer::Clock(hertz::hertz_or(hse, 0));
         }
         Mco1Source::Pll1Q => {
             return planned(pll1);
@@ -109,7 +100,7 @@ pub fn mco2_input(
             return planned(pll2);
         }
         Mco2Source::Hse => {
-            return InputAnswer::Clock(hertz_or_0(hse));
+            return InputAnswer::Clock(hertz::hertz_or(hse, 0));
         }
         Mco2Source::Pll1P => {
             return planned(pll1);

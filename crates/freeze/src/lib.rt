@@ -36,7 +36,7 @@ pub fn answer_to(q: Request, c: ChipState) -> Planned
 {
     let plls = q.plls;
     let third = plls[2];
-    let blank = plls::is_no_part(third);
+    let blank = hertz::is_no_part(third);
     let fits = c.three | blank;
     if !fits {
         return assemble::refused(Refusal::OutsideCodes);

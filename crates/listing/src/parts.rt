@@ -1,9 +1,7 @@
 // What each part of the list shows, from a place on. The answer is the next place. Document 01, Register entries.
 ghost use mathlib.Core.Path.{_≡_};
-ghost use mathlib.Core.List.{[], _∷_};
 ghost use Prim.Native.Nat.{_<_, _≤_};
 ghost use lib.ListN.{length};
-ghost use Rattle.types.specs.declared.Entry.the-variants.{Check};
 ghost use Rattle.rules.specs.Document01.Fields;
 ghost use Rattle.rules.specs.Document01.OnePll.{pllFrom};
 ghost use Rattle.rules.specs.Document01.Entries.{outputEntries, fractionEntries, baseEntries, settingEntries, setupEntries, setups, flashEntries, oscillatorEntries, clockEntries, hseEntries, sourceEntries, outputStart, startEntries, starts, prescalerEntries, checkEntries, cellEntries, busEntries};

@@ -20,11 +20,16 @@ use Rattle.types.specs.declared.Refusal.the-variants.{NOutside, FracnOutside, P
 use Rattle.ieee754.specs.Steps.{float, fracnOf, vcoOf}
 use Rattle.rules.specs.Document01.Hertz.{hertzOr, orElse}
 use Rattle.rules.specs.Document01.Result.{Result, refused, ok, _>>=_, _>>_}
-use Rattle.rules.specs.Document01.OnePll.{firstOf, taken, fractionOf, vcoBy, dividerP, allowedP, settingsOf, settled, running}
+use Rattle.rules.specs.Document01.OnePll.{firstOf, taken, fractionOf, vcoBy, outputOf, dividerP, allowedP, settingsOf, settled, running}
 use Rattle.pll.specs.declared.settle.Chosen.{Chosen}
 use Rattle.pll.specs.declared.settle.Multiplied.{Multiplied}
 use Rattle.pll.specs.declared.settle.Multiplied.the-variants as Multiplied
-use Rattle.pll.specs.Settle.{multiplied, settledFor, placed, placedSettings}
+use Rattle.pll.specs.Settle.{multiplied, settledFor, placed, placedSettings, dividerIn}
+
+-- ---- P's divider
+pub divider-is : (target vco : ℕ) (h : Hertz) → dividerIn (outputOf target vco h) ≡ dividerP target h
+divider-is target vco Unset = refl
+divider-is target vco (Hz h) = refl
 
 -- ---- the first requested of P, Q, R
 pub first-is : (p q r : Hertz) → hertzOr p (hertzOr q (hertzOr r 0)) ≡ hertzOr (orElse p (orElse q r)) 0

@@ -3,6 +3,8 @@ use mathlib.Core.Bool.{Bool}
 use Prim.Native.Nat.{ℕ, _/_, _≤_, _<_}
 use Rattle.types.specs.declared.Hertz.{Hertz}
 use Rattle.types.specs.declared.Hertz.the-variants.{Unset, Hz}
+use Rattle.types.specs.declared.PllOutput.{PllOutput}
+use Rattle.types.specs.declared.PllOutput.the-variants.{Off, On}
 use Rattle.types.specs.declared.PllRequest.{PllRequest}
 use Rattle.types.specs.declared.PllSettings.{PllSettings}
 use Rattle.types.specs.declared.Fraction.{Fraction}
@@ -51,6 +53,11 @@ placedSettings a c f = record {
   q = outputOf (c .target) (c .vco) (a .q);
   r = outputOf (c .target) (c .vco) (a .r);
 }
+
+-- refusals 14 and 15: P's divider in its output; 2 where there is none
+abbrev pub dividerIn : PllOutput → ℕ
+dividerIn Off = 2
+dividerIn (On d h) = d
 
 -- refusals 14 and 15, and the settings
 unfoldable pub placed : (odd : Bool) → PllRequest → Chosen → Fraction → Result PllSettings

@@ -1,20 +1,10 @@
 // The outputs requested of a PLL: whether one is at 0 Hz, and the least and the largest as they count.
 ghost use mathlib.Core.Path.{_≡_};
 ghost use Prim.Native.Nat.{min, max};
-ghost use Rattle.rules.specs.Document01.Hertz.{notZero};
 ghost use Rattle.rules.specs.Document01.OnePll as Rules;
 ghost use Rattle.pll.specs.Spans.{spanOf, spanOfP, withHertz, withOutput};
 use types::Hertz;
 use types::PllRequest;
-
-fn not_zero(h: Hertz) -> bool
-    ensures { λ r. ⌜ r ≡ notZero h ⌝ }
-{
-    match h {
-        Hertz::Unset => true,
-        Hertz::Hz(f) => f != 0,
-    }
-}
 
 // Whether no output is requested at 0 Hz.
 pub fn none_zero(a: PllRequest) -> bool
@@ -23,9 +13,9 @@ pub fn none_zero(a: PllRequest) -> bool
     let p = a.p;
     let q = a.q;
     let r = a.r;
-    if not_zero(p) {
-        if not_zero(q) {
-            return not_zero(r);
+    if hertz::not_zero(p) {
+        if hertz::not_zero(q) {
+            return hertz::not_zero(r);
         }
     }
     false

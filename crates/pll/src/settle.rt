@@ -1,10 +1,9 @@
 // The settings of a PLL once its target and M are chosen, with refusals 12 to 15.
 ghost use mathlib.Core.Path.{_≡_};
-ghost use Prim.Native.Nat.{_*_, _<_};
-ghost use Rattle.rules.specs.Document01.Hertz.{hertzOr};
+ghost use Prim.Native.Nat.{_*_, _/_, _<_, _≤_};
 ghost use Rattle.rules.specs.Document01.OnePll as Rules;
 ghost use Rattle.rules.specs.Answers.{pllResult};
-ghost use Rattle.pll.specs.Settle.{HasDivider, Settles, multiplied, settledFor, Placed, placed};
+ghost use Rattle.pll.specs.Settle.{HasDivider, Settles, multiplied, settledFor, Placed, placed, dividerIn};
 use types::Fracn;
 use types::Fraction;
 use types::Hertz;
@@ -37,7 +36,7 @@ pub fn settle(
     }
     let strategy = request.strategy;
     let first = first_of(request);
-    match multiply(strategy, reference, n, target / first, first) {
+    match multiply(strategy, reference, n, target, first) {
         Multiplied::OutOfRange => return PllAnswer::Refused(Refusal::FracnOutside),
         Multiplied::By(fraction, vco) => {
             let c = Chosen {
@@ -76,27 +75,17 @@ fn first_of(a: PllRequest) -> u32
     let p = a.p;
     let q = a.q;
     let r = a.r;
-    hertz_or(p, hertz_or(q, hertz_or(r, 0)))
-}
-
-// The hertz that are requested, else other ones.
-fn hertz_or(h: Hertz, other: u32) -> u32
-    ensures { λ f. ⌜ f ≡ hertzOr h other ⌝ }
-{
-    match h {
-        Hertz::Unset => other,
-        Hertz::Hz(f) => f,
-    }
+    hertz::hertz_or(p, hertz::hertz_or(q, hertz::hertz_or(r, 0)))
 }
 
 // FRACN, if Fractional, and the VCO.
-fn multiply(strategy: Strategy, reference: u32, n: u32, divider: u32, output: u32) -> Multiplied
-    requires { ⌜ reference * n < 4294967296 ⌝ }
-    ensures { λ r. ⌜ r ≡ multiplied reference n (Rules.fractionOf strategy reference n divider output) ⌝ }
+fn multiply(strategy: Strategy, reference: u32, n: u32, target: u32, output: u32) -> Multiplied
+    requires { ⌜ (reference * n < 4294967296) × (1 ≤ output) ⌝ }
+    ensures { λ r. ⌜ r ≡ multiplied reference n (Rules.fractionOf strategy reference n (target / output) output) ⌝ }
 {
     match strategy {
         Strategy::Integer => return Multiplied::By(Fraction::Whole, reference * n),
-        Strategy::Fractional => match fracn::fracn_for(reference, n, divider, output) {
+        Strategy::Fractional => match fracn::fracn_for(reference, n, target / output, output) {
             Fracn::Value(f) => {
                 return Multiplied::By(
                     Fraction::Part(f as u32),
@@ -116,7 +105,8 @@ fn place(odd: bool, request: PllRequest, c: Chosen, fraction: Fraction) -> PllAn
     let p = request.p;
     let q = request.q;
     let r = request.r;
-    let d = divider_p(c.target, p);
+    let first = output_of(c.target, c.vco, p);
+    let d = divider_p(first);
     if 128 < d {
         return PllAnswer::Refused(Refusal::PDividerAbove128);
     }
@@ -134,20 +124,19 @@ fn place(odd: bool, request: PllRequest, c: Chosen, fraction: Fraction) -> PllAn
         n: c.n,
         fraction: fraction,
         vco: c.vco,
-        p: output_of(c.target, c.vco, p),
+        p: first,
         q: output_of(c.target, c.vco, q),
         r: output_of(c.target, c.vco, r),
     }))
 }
 
 // P's divider; an unset P has none, and 2 stands for it.
-fn divider_p(target: u32, h: Hertz) -> u32
-    requires { ⌜ HasDivider target h ⌝ }
-    ensures { λ r. ⌜ r ≡ Rules.dividerP target h ⌝ }
+fn divider_p(p: PllOutput) -> u32
+    ensures { λ r. ⌜ r ≡ dividerIn p ⌝ }
 {
-    match h {
-        Hertz::Unset => 2,
-        Hertz::Hz(f) => target / f,
+    match p {
+        PllOutput::Off => 2,
+        PllOutput::On(d, _) => d,
     }
 }
 

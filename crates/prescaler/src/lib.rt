@@ -1,9 +1,9 @@
 // The prescalers: rcc.rs, HPRE, PPRE and the timers; mco.rs, calculate_prescaler.
 ghost use mathlib.Core.Path.{_≡_};
-ghost use mathlib.Core.Bool.{cond, not};
+ghost use mathlib.Core.Bool.{cond};
 ghost use lib.Dec.{leb};
 ghost use Prim.Native.Nat.{_≤_};
-ghost use Rattle.rules.specs.Document01.Hertz.{ratioOf, hertzOr, notZero};
+ghost use Rattle.rules.specs.Document01.Hertz.{ratioOf, hertzOr};
 ghost use Rattle.rules.specs.Document01.Buses.{hpreOf, ppreOf, ahbOf, apbOf, timerOf};
 ghost use Rattle.rules.specs.Document01.Mco.{mcoOf};
 ghost use Rattle.rules.specs.Answers.{busResult, mcoResult};
@@ -23,31 +23,11 @@ fn ratio(clock: u32, wanted: u32) -> u32
     clock / wanted + over
 }
 
-// Whether 0 Hz is requested.
-fn is_zero(requested: Hertz) -> bool
-    ensures { λ r. ⌜ r ≡ not (notZero requested) ⌝ }
-{
-    match requested {
-        Hertz::Unset => false,
-        Hertz::Hz(h) => h == 0,
-    }
-}
-
-// The clock that is requested: unset means the clock itself.
-fn hertz_or(requested: Hertz, clock: u32) -> u32
-    ensures { λ r. ⌜ r ≡ hertzOr requested clock ⌝ }
-{
-    match requested {
-        Hertz::Unset => clock,
-        Hertz::Hz(h) => h,
-    }
-}
-
 // The ratio for a bus. A clock of 0 Hz has a ratio of 0.
 fn bus_ratio(clock: u32, requested: Hertz) -> u32
     ensures { λ r. ⌜ r ≡ ratioOf clock (hertzOr requested clock) ⌝ }
 {
-    let wanted = hertz_or(requested, clock);
+    let wanted = hertz::hertz_or(requested, clock);
     if wanted == 0 {
         return 0;
     }
@@ -89,7 +69,7 @@ fn hpre_of(ratio: u32) -> u32
 pub fn ahb(system: u32, requested: Hertz) -> BusAnswer
     ensures { λ r. ⌜ busResult r ≡ ahbOf system requested ⌝ }
 {
-    if is_zero(requested) {
+    if !hertz::not_zero(requested) {
         return BusAnswer::Refused(Refusal::BusZero);
     }
     let pre = hpre_of(bus_ratio(system, requested));
@@ -104,7 +84,7 @@ pub fn ahb(system: u32, requested: Hertz) -> BusAnswer
 pub fn apb(hclk: u32, requested: Hertz) -> BusAnswer
     ensures { λ r. ⌜ busResult r ≡ apbOf hclk requested ⌝ }
 {
-    if is_zero(requested) {
+    if !hertz::not_zero(requested) {
         return BusAnswer::Refused(Refusal::BusZero);
     }
     let pre = ppre_of(bus_ratio(hclk, requested));

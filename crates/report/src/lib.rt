@@ -2,8 +2,6 @@
 ghost use mathlib.Core.Path.{_≡_};
 ghost use Prim.Native.Nat.{_<_};
 ghost use mathlib.Core.List.{[], _∷_};
-ghost use Rattle.rules.specs.Document01.Entries.{bit};
-ghost use Rattle.rules.specs.Document01.Hertz.{isSet, hertzOr};
 ghost use Rattle.rules.specs.Document01.OnePll.{clockOf};
 ghost use Rattle.rules.specs.Words.{storedFrom, hertzWords, pllWords, reportWords};
 ghost use Rattle.report.specs.Report.{alwaysWords, givenWords, outputWords};
@@ -16,26 +14,6 @@ use types::Plan;
 use types::Pll;
 use types::PllOutput;
 use types::PllPlan;
-
-// 1 where a clock is there.
-fn set_of(h: Hertz) -> u32
-    ensures { λ r. ⌜ r ≡ bit (isSet h) ⌝ }
-{
-    match h {
-        Hertz::Unset => 0,
-        Hertz::Hz(_) => 1,
-    }
-}
-
-// Its hertz, and 0 where it is not there.
-fn hertz_or_0(h: Hertz) -> u32
-    ensures { λ r. ⌜ r ≡ hertzOr h 0 ⌝ }
-{
-    match h {
-        Hertz::Unset => 0,
-        Hertz::Hz(f) => f,
-    }
-}
 
 // An output of a PLL, where it is on.
 fn hertz_of(o: PllOutput) -> Hertz
@@ -61,7 +39,7 @@ fn put_clock(out: &mut [u32], at: usize, h: Hertz)
     requires { ⌜ at < 55 ⌝ }
     ensures { λ r. ⌜ now (out .exit) ≡ storedFrom (now (out .entry)) at (hertzWords h []) ⌝ }
 {
-    put2(out, at, set_of(h), hertz_or_0(h))
+    put2(out, at, hertz::set_of(h), hertz::hertz_or(h, 0))
 }
 
 // Three clocks one after the other.

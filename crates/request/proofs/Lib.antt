@@ -1,3 +1,4 @@
 pub mod Codes
 pub mod Chips
+pub mod Wrong
 pub mod Reading

@@ -1,5 +1,6 @@
 -- The byte form by places: document 01, One call, from the top, second paragraph. Which bytes are well-formed, and what they stand for. That
 -- this is what the readers of crates/rules read from the front is proved in proofs/Reading.antt.
+use mathlib.Core.Path.{_≡_}
 use mathlib.Core.Bool.{Bool, true, false, cond, _&&_, _||_}
 use mathlib.Core.List.{List, [], _∷_}
 use Prim.Native.Nat.{ℕ, _+_, _*_}
@@ -15,6 +16,10 @@ use Rattle.types.specs.declared.PllRequest.{PllRequest}
 use Rattle.types.specs.declared.Request.{Request}
 use Rattle.rules.specs.Document01.Bytes.{mco1Sources, mco2Sources, noPart}
 
+-- a number that is 0 where nothing is wrong
+pub record Finds (wrong : ℕ) (ok : Bool) : Type 0 where
+  pub told : eqb wrong 0 ≡ ok
+
 -- a code: a byte below n
 abbrev pub codeOk : (n : ℕ) → List ℕ → ℕ → Bool
 codeOk n l i = ltb (getD l i 0) n
@@ -23,9 +28,13 @@ codeOk n l i = ltb (getD l i 0) n
 unfoldable pub u32leAt : List ℕ → ℕ → ℕ
 u32leAt l i = getD l i 0 + 256 * getD l (i + 1) 0 + 65_536 * getD l (i + 2) 0 + 16_777_216 * getD l (i + 3) 0
 
+-- a flag and a number: 1 and any, or 0 and 0
+abbrev pub hertzIs : (set number : ℕ) → Bool
+hertzIs set number = ltb set 2 && (eqb set 1 || eqb number 0)
+
 -- each hertz is a byte 0 or 1 and 4 bytes, all 0 if unset
 unfoldable pub hertzOk : List ℕ → ℕ → Bool
-hertzOk l i = ltb (getD l i 0) 2 && (eqb (getD l i 0) 1 || eqb (u32leAt l (i + 1)) 0)
+hertzOk l i = hertzIs (getD l i 0) (u32leAt l (i + 1))
 
 -- a hertz
 unfoldable pub hertzAt : List ℕ → ℕ → Hertz

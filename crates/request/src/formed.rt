@@ -1,94 +1,101 @@
-// Whether the bytes are well-formed, by places.
+// Whether the bytes are well-formed, by places. What is wrong is gathered as a number by `|`, 0 for nothing, and tested once: a branch at each byte
+// would cost more than it spares, as most requests are well-formed.
 ghost use mathlib.Core.Path.{_≡_};
 ghost use Prim.Native.Nat.{_+_, _≤_};
 ghost use lib.ListN.{length};
 ghost use Rattle.rules.specs.Document01.Bytes.{sizeOf};
 ghost use Rattle.request.specs.Parts as Parts;
-ghost use Rattle.request.specs.Parts.{hertzOk, threeOk, pllOk, thirdOk, clocksOk, outputsOk, pllsOk};
+ghost use Rattle.request.specs.Parts.{Finds, codeOk, hertzIs, hertzOk, threeOk, pllOk, thirdOk, clocksOk, outputsOk, pllsOk};
 use crate::parts;
 
-// A hertz: 0 and four zeros, or 1 and any four bytes. All is read, and judged by `&` and `|`: no branch waits for a byte.
-fn hertz_ok(b: &[u8], at: usize) -> bool
-    requires { ⌜ at + 5 ≤ length (now b) ⌝ }
-    ensures { λ r. ⌜ r ≡ hertzOk (now (b .entry)) at ⌝ }
+// A code: a byte below n.
+fn code(b: &[u8], at: usize, n: u8) -> u32
+    requires { ⌜ at + 1 ≤ length (now b) ⌝ }
+    ensures { λ r. ⌜ Finds r (codeOk n (now (b .entry)) at) ⌝ }
 {
-    let set = b[at];
+    (n <= b[at]) as u32
+}
+
+// 0 and the number 0, or 1 and any number.
+fn set_or_zero(set: u8, number: u32) -> u32
+    ensures { λ r. ⌜ Finds r (hertzIs set number) ⌝ }
+{
+    if set == 0 {
+        return number;
+    }
+    set as u32 - 1
+}
+
+// A hertz: 0 and four zeros, or 1 and any four bytes.
+fn hertz(b: &[u8], at: usize) -> u32
+    requires { ⌜ at + 5 ≤ length (now b) ⌝ }
+    ensures { λ r. ⌜ Finds r (hertzOk (now (b .entry)) at) ⌝ }
+{
     let number = parts::u32le_at(b, at + 1);
-    (set < 2) & ((set == 1) | (number == 0))
+    set_or_zero(b[at], number)
 }
 
 // Three hertz in a row.
-fn three_ok(b: &[u8], at: usize) -> bool
+fn three(b: &[u8], at: usize) -> u32
     requires { ⌜ at + 15 ≤ length (now b) ⌝ }
-    ensures { λ r. ⌜ r ≡ threeOk (now (b .entry)) at ⌝ }
+    ensures { λ r. ⌜ Finds r (threeOk (now (b .entry)) at) ⌝ }
 {
-    let first = hertz_ok(b, at);
-    let second = hertz_ok(b, at + 5);
-    let third = hertz_ok(b, at + 10);
-    first & (second & third)
+    hertz(b, at) | (hertz(b, at + 5) | hertz(b, at + 10))
 }
 
 // A PLL's part.
-pub fn pll_ok(b: &[u8], at: usize) -> bool
+fn pll(b: &[u8], at: usize) -> u32
     requires { ⌜ at + 16 ≤ length (now b) ⌝ }
-    ensures { λ r. ⌜ r ≡ pllOk (now (b .entry)) at ⌝ }
+    ensures { λ r. ⌜ Finds r (pllOk (now (b .entry)) at) ⌝ }
 {
-    let strategy = b[at] < 2;
-    let outputs = three_ok(b, at + 1);
-    strategy & outputs
+    code(b, at, 2) | three(b, at + 1)
 }
 
 // The PLL3 part, where there is one.
-fn third_ok(b: &[u8], three: bool) -> bool
-    requires { ⌜ sizeOf three ≤ length (now b) ⌝ }
-    ensures { λ r. ⌜ r ≡ thirdOk three (now (b .entry)) ⌝ }
+fn third(b: &[u8], there: bool) -> u32
+    requires { ⌜ sizeOf there ≤ length (now b) ⌝ }
+    ensures { λ r. ⌜ Finds r (thirdOk there (now (b .entry))) ⌝ }
 {
-    if three {
-        return pll_ok(b, 90);
+    if there {
+        return pll(b, 90);
     }
-    true
+    0
 }
 
-fn clocks_ok(b: &[u8]) -> bool
+fn clocks(b: &[u8]) -> u32
     requires { ⌜ 90 ≤ length (now b) ⌝ }
-    ensures { λ r. ⌜ r ≡ clocksOk (now (b .entry)) ⌝ }
+    ensures { λ r. ⌜ Finds r (clocksOk (now (b .entry))) ⌝ }
 {
-    let first = three_ok(b, 0);
-    let second = three_ok(b, 15);
-    let third = three_ok(b, 30);
-    first & (second & third)
+    three(b, 0) | (three(b, 15) | three(b, 30))
 }
 
 // The bypass flag, and MCO1 and MCO2 with their sources.
-fn outputs_ok(b: &[u8]) -> bool
+fn outputs(b: &[u8]) -> u32
     requires { ⌜ 90 ≤ length (now b) ⌝ }
-    ensures { λ r. ⌜ r ≡ outputsOk (now (b .entry)) ⌝ }
+    ensures { λ r. ⌜ Finds r (outputsOk (now (b .entry))) ⌝ }
 {
-    let bypass = b[45] < 2;
-    let source1 = b[46] < 5;
-    let mco1 = hertz_ok(b, 47);
-    let source2 = b[52] < 6;
-    let mco2 = hertz_ok(b, 53);
-    bypass & (source1 & (mco1 & (source2 & mco2)))
+    code(b, 45, 2) | (code(b, 46, 5) | (hertz(b, 47) | (code(b, 52, 6) | hertz(b, 53))))
 }
 
-fn plls_ok(b: &[u8], three: bool) -> bool
-    requires { ⌜ (90 ≤ length (now b)) × (sizeOf three ≤ length (now b)) ⌝ }
-    ensures { λ r. ⌜ r ≡ pllsOk three (now (b .entry)) ⌝ }
+fn plls(b: &[u8], there: bool) -> u32
+    requires { ⌜ (90 ≤ length (now b)) × (sizeOf there ≤ length (now b)) ⌝ }
+    ensures { λ r. ⌜ Finds r (pllsOk there (now (b .entry))) ⌝ }
 {
-    let first = pll_ok(b, 58);
-    let second = pll_ok(b, 74);
-    let third = third_ok(b, three);
-    first & (second & third)
+    pll(b, 58) | (pll(b, 74) | third(b, there))
 }
 
 // The whole request.
-pub fn formed(b: &[u8], three: bool) -> bool
-    requires { ⌜ (90 ≤ length (now b)) × (sizeOf three ≤ length (now b)) ⌝ }
-    ensures { λ r. ⌜ r ≡ Parts.formed three (now (b .entry)) ⌝ }
+pub fn formed(b: &[u8], there: bool) -> bool
+    requires { ⌜ (90 ≤ length (now b)) × (sizeOf there ≤ length (now b)) ⌝ }
+    ensures { λ r. ⌜ r ≡ Parts.formed there (now (b .entry)) ⌝ }
 {
-    let clocks = clocks_ok(b);
-    let outputs = outputs_ok(b);
-    let plls = plls_ok(b, three);
-    clocks & (outputs & plls)
+    (clocks(b) | (outputs(b) | plls(b, there))) == 0
+}
+
+// One PLL's part.
+pub fn pll_formed(b: &[u8], at: usize) -> bool
+    requires { ⌜ at + 16 ≤ length (now b) ⌝ }
+    ensures { λ r. ⌜ r ≡ pllOk (now (b .entry)) at ⌝ }
+{
+    pll(b, at) == 0
 }

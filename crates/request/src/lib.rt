@@ -112,7 +112,7 @@ pub fn read_part(bytes: &[u8]) -> PartRead
     if bytes.len() != 16 {
         return none_read();
     }
-    if !formed::pll_ok(bytes, 0) {
+    if !formed::pll_formed(bytes, 0) {
         return none_read();
     }
     let part = parts::part_at(bytes, 0);

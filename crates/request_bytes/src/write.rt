@@ -1,57 +1,17 @@
 // A request's bytes, stored at their places.
 ghost use mathlib.Core.Path.{_≡_};
-ghost use mathlib.Core.Bool.{_&&_};
 ghost use mathlib.Core.List.{_∷_};
 ghost use Prim.Native.Nat.{_+_, _≤_};
 ghost use lib.ListN.{length};
 ghost use Rattle.rules.specs.Document01.Mco.{mco1Code, mco2Code};
 ghost use Rattle.rules.specs.Document01.Bytes.{u32leBytes, hertzBytes, flagByte, strategyCode, pllBytes, sizeOf};
 ghost use Rattle.request_bytes.specs.Writing.{isWritten, Stored, threeBytes, clocksBytes, outputsBytes, pllsBytes};
-ghost use Rattle.rules.specs.Document01.Bytes.{isUnset, isInteger, isNoPart};
 use types::Hertz;
 use types::Mco1Source;
 use types::Mco2Source;
 use types::PllRequest;
 use types::Request;
 use types::Strategy;
-
-fn both(a: bool, b: bool) -> bool
-    ensures { λ r. ⌜ r ≡ (a && b) ⌝ }
-{
-    if a {
-        return b;
-    }
-    false
-}
-
-fn is_unset(h: Hertz) -> bool
-    ensures { λ r. ⌜ r ≡ isUnset h ⌝ }
-{
-    match h {
-        Hertz::Unset => true,
-        Hertz::Hz(_) => false,
-    }
-}
-
-fn is_integer(s: Strategy) -> bool
-    ensures { λ r. ⌜ r ≡ isInteger s ⌝ }
-{
-    match s {
-        Strategy::Integer => true,
-        Strategy::Fractional => false,
-    }
-}
-
-fn is_no_part(a: PllRequest) -> bool
-    ensures { λ r. ⌜ r ≡ isNoPart a ⌝ }
-{
-    let s = a.strategy;
-    let p = a.p;
-    let q = a.q;
-    let r = a.r;
-    let outputs = both(is_unset(p), both(is_unset(q), is_unset(r)));
-    both(is_integer(s), outputs)
-}
 
 // 90 bytes on two PLLs, 106 on three.
 fn size_of(three: bool) -> usize
@@ -74,7 +34,7 @@ pub fn is_written(room: usize, three: bool, request: Request) -> bool
         return true;
     }
     let plls = request.plls;
-    is_no_part(plls[2])
+    hertz::is_no_part(plls[2])
 }
 
 fn flag_byte(b: bool) -> u8

@@ -1,24 +1,23 @@
 -- `prescaler::ahb` meets its contract.
-use mathlib.Core.Path.{_≡_, ap, _∙_}
+use mathlib.Core.Path.{_≡_, ap, sym, _∙_}
 use mathlib.Core.Bool.{true}
 use borrow.Author.Needs.{needs}
-use borrow.Author.Tests.{ne-eqb}
+use borrow.Author.Tests.{not-true, not-false, ne-eqb}
 use Rattle.rules.specs.Document01.Hertz.{notZero}
 use Rattle.rules.specs.Document01.Buses.{hpreOf, hpreFor, ahbOf}
 use Rattle.rules.proofs.Document01.Ratios.{hpre-pos}
-use Rattle.prescaler.proofs.Zero.{zero, nonzero}
 use Rattle.prescaler.proofs.ahb.Tie as tie
 
 module _ (c : tie.After-hpre-of) where
   above-zero : notZero (c .before .before .before .before .args .requested) ≡ true
-  above-zero = nonzero (c .before .before .before .before .args .requested) (c .before .before .before .is-zero .ensures) (c .before .before .if1 .left)
+  above-zero = sym (c .before .before .before .not-zero .ensures) ∙ not-false _ (c .before .before .if1 .left)
 
   divisor : c .hpre-of .result ≡ hpreFor (c .before .before .before .before .args .system) (c .before .before .before .before .args .requested)
   divisor = c .hpre-of .ensures ∙ ap hpreOf (c .before .bus-ratio .ensures)
 
 returns : tie.Need-returns
 unfolding ahbOf
-returns c = rw (zero (c .before .before .args .requested) (c .before .is-zero .ensures) (c .if1 .taken))
+returns c = rw (sym (c .before .not-zero .ensures) ∙ not-true _ (c .if1 .taken))
 
 div-hclk : tie.Need-div-hclk
 div-hclk c = rw (c .hpre-of .ensures) (hpre-pos (c .before .bus-ratio .result))

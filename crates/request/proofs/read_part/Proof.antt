@@ -12,12 +12,12 @@ returns c = c .none-read .ensures ∙ sym (bad-part-size (now (c .before .before
 returns-2 : tie.Need-returns-2
 returns-2 c =
     let s = c .before .before in
-    c .none-read2 .ensures ∙ sym (bad-part (now (s .before .before .before .args .bytes)) (s .before .if1 .left) (sym (s .pll-ok .ensures) ∙ not-true _ (c .before .if2 .taken)))
+    c .none-read2 .ensures ∙ sym (bad-part (now (s .before .before .before .args .bytes)) (s .before .if1 .left) (sym (s .pll-formed .ensures) ∙ not-true _ (c .before .if2 .taken)))
 
 returns-3 : tie.Need-returns-3
 returns-3 c =
     let s = c .before .before in
-    rw (part-taken (now (s .before .before .before .args .bytes)) (s .before .if1 .left) (sym (s .pll-ok .ensures) ∙ not-false _ (c .before .if2 .left)), c .part-at .ensures)
+    rw (part-taken (now (s .before .before .before .args .bytes)) (s .before .if1 .left) (sym (s .pll-formed .ensures) ∙ not-false _ (c .before .if2 .left)), c .part-at .ensures)
 
 pub read-part-spec : {M : Type 1} → Rattle.request.proofs.read_part.Statement.statement M
 read-part-spec =

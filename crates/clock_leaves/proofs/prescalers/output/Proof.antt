@@ -10,7 +10,7 @@ returns-2 : tie.Need-returns-2
 returns-2 c =
     let t = c .before .before in
     let s = t .before .before in
-    rw (s .before .before .before .x2 .given .1, t .three .ensures .0, t .three .ensures .1, s .hertz-of .ensures, s .before .set-of .ensures) (refl, refl)
+    rw (s .before .before .before .x2 .given .1, t .three .ensures .0, t .three .ensures .1, s .hertz-or .ensures, s .before .set-of .ensures) (refl, refl)
 
 pub output-spec : {M : Type 1} → Rattle.clock_leaves.proofs.prescalers.output.Statement.statement M
 output-spec =

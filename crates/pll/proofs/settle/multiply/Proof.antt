@@ -17,5 +17,5 @@ returns-3 c = let m = c .before .before in
 
 pub multiply-spec : {M : Type 1} → Rattle.pll.proofs.settle.multiply.Statement.statement M
 multiply-spec =
-    tie.close (tie.spec (λ c. search needs) (λ c. search needs) returns (λ c. search needs) (λ c κs. search needs) (λ c. search needs)
+    tie.close (tie.spec (λ c. search needs) (λ c. search needs) returns (λ c. search needs) (λ c. search needs) (λ c κs. search needs) (λ c. search needs)
     (λ c. search needs) (λ c κs. search needs) returns-2 (λ c. search needs) returns-3)

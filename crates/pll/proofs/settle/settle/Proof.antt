@@ -13,7 +13,11 @@ returns-2 : tie.Need-returns-2
 returns-2 c = n-high _ _ _ _ _ _ _ refl (c .before .if1 .left) (c .if2 .taken)
 
 multiply-requires : tie.Need-multiply-requires
-multiply-requires c κs = let s = c .before .before .before in let h = mul-div-le (s .args .target) (s .args .reference) in let p = s .pre .small in omega arith
+multiply-requires c κs =
+    let s = c .before .before .before in
+    let h = mul-div-le (s .args .target) (s .args .reference) in
+    let p = s .pre .small in
+    (omega arith, rw (c .first-of .ensures) (s .pre .first))
 
 returns-3 : tie.Need-returns-3
 returns-3 c = let m = c .before .before in
@@ -30,5 +34,5 @@ returns-4 c = let b = c .before .before in
 
 pub settle-spec : {M : Type 1} → Rattle.pll.proofs.settle.settle.Statement.statement M
 settle-spec =
-    tie.close (tie.spec (λ c. search needs) returns returns-2 (λ c κs. search needs) (λ c. search needs) multiply-requires
+    tie.close (tie.spec (λ c. search needs) returns returns-2 (λ c κs. search needs) multiply-requires
     (λ c. search needs) returns-3 (λ c. search needs) (λ c κs. search needs) returns-4)
