@@ -112,16 +112,13 @@ fn flash(w: Waits, i: usize, n: usize, reads: &[u32], out: &mut [u32]) -> usize
 {
     let a = turn(LSION, 1, i, n, reads, out);
     let p = prften(w.latency);
-    let b = nine(
-        1,
-        WRHIGHFREQ as u32 + 1,
+    let b = set3(
+        WRHIGHFREQ,
         w.delay,
-        LATENCY as u32 + 1,
+        LATENCY,
         w.latency,
-        PRFTEN as u32 + 1,
+        PRFTEN,
         p,
-        0,
-        0,
         a,
         n,
         out,
@@ -136,15 +133,14 @@ fn oscillators(s: Selectors, m: Mcos, i: usize, n: usize, reads: &[u32], out: &m
 {
     let a = turn(CSION, 1, i, n, reads, out);
     let b = turn(HSI48ON, 1, a, n, reads, out);
-    nine(
-        1,
-        MCO1SEL as u32 + 1,
+    set4(
+        MCO1SEL,
         s.mco1sel,
-        MCO1PRE as u32 + 1,
+        MCO1PRE,
         m.mco1.pre,
-        MCO2SEL as u32 + 1,
+        MCO2SEL,
         s.mco2sel,
-        MCO2PRE as u32 + 1,
+        MCO2PRE,
         m.mco2.pre,
         b,
         n,
@@ -178,20 +174,7 @@ pub fn hse_on(hse: Hertz, bypass: bool, i: usize, n: usize, reads: &[u32], out: 
         Hertz::Unset => i,
         Hertz::Hz(_) => {
             let b = bit_of(bypass);
-            let a = nine(
-                1,
-                HSEON as u32 + 1,
-                1,
-                HSEBYP as u32 + 1,
-                b,
-                0,
-                0,
-                0,
-                0,
-                i,
-                n,
-                out,
-            );
+            let a = set2(HSEON, 1, HSEBYP, b, i, n, out);
             wait(HSERDY, 1, a, n, reads, out)
         }
     }
@@ -284,15 +267,14 @@ fn prescalers(b: Buses, s: Selectors, i: usize, n: usize, reads: &[u32], out: &m
     requires { ⌜ Fits n i 6 (length (now out)) ⌝ }
     ensures { λ r. ⌜ Shows (now (reads .entry)) n 6 (prescalerEntries b s) i (now (out .entry)) r (now (out .exit)) ⌝ }
 {
-    let a = nine(
-        1,
-        HPRE as u32 + 1,
+    let a = set4(
+        HPRE,
         b.ahb.pre,
-        PPRE1 as u32 + 1,
+        PPRE1,
         b.apb1.pre,
-        PPRE2 as u32 + 1,
+        PPRE2,
         b.apb2.pre,
-        PPRE3 as u32 + 1,
+        PPRE3,
         b.apb3.pre,
         i,
         n,
@@ -320,20 +302,7 @@ fn cells(i: usize, n: usize, reads: &[u32], out: &mut [u32]) -> usize
     ensures { λ r. ⌜ Shows (now (reads .entry)) n 3 cellEntries i (now (out .entry)) r (now (out .exit)) ⌝ }
 {
     let a = set(SBSEN, 1, i, n, out);
-    let b = nine(
-        1,
-        EN1 as u32 + 1,
-        1,
-        CS1 as u32 + 1,
-        0,
-        EN2 as u32 + 1,
-        1,
-        CS2 as u32 + 1,
-        0,
-        a,
-        n,
-        out,
-    );
+    let b = set4(EN1, 1, CS1, 0, EN2, 1, CS2, 0, a, n, out);
     cell(b, n, reads, out)
 }
 

@@ -4,7 +4,7 @@ ghost use mathlib.Core.List.{[], _∷_};
 ghost use mathlib.Core.Bool.{not};
 ghost use Prim.Native.Nat.{_+_, _<_};
 ghost use lib.ListN.{length};
-ghost use Rattle.types.specs.declared.Entry.the-variants.{Set, Wait, Wait2};
+ghost use Rattle.types.specs.declared.Entry.the-variants.{Set, Set2, Set3, Set4, Wait, Wait2};
 ghost use Rattle.rules.specs.Document01.Fields;
 ghost use Rattle.listing.specs.Showing.{storedIn, seen, Fits, Sets, Shows};
 use fields::*;
@@ -50,6 +50,78 @@ pub fn set(f: usize, v: u32, i: usize, n: usize, out: &mut [u32]) -> usize
     ensures { λ r. ⌜ Sets n 1 (Set f v ∷ []) i (now (out .entry)) r (now (out .exit)) ⌝ }
 {
     nine(1, f as u32 + 1, v, 0, 0, 0, 0, 0, 0, i, n, out)
+}
+
+// A set of two fields together.
+pub fn set2(f: usize, v: u32, g: usize, w: u32, i: usize, n: usize, out: &mut [u32]) -> usize
+    requires { ⌜ ((f < 82) × (g < 82)) × Fits n i 1 (length (now out)) ⌝ }
+    ensures { λ r. ⌜ Sets n 1 (Set2 f v g w ∷ []) i (now (out .entry)) r (now (out .exit)) ⌝ }
+{
+    nine(1, f as u32 + 1, v, g as u32 + 1, w, 0, 0, 0, 0, i, n, out)
+}
+
+// Of three.
+pub fn set3(
+    f: usize,
+    v: u32,
+    g: usize,
+    w: u32,
+    h: usize,
+    x: u32,
+    i: usize,
+    n: usize,
+    out: &mut [u32],
+) -> usize
+    requires { ⌜ (((f < 82) × (g < 82)) × (h < 82)) × Fits n i 1 (length (now out)) ⌝ }
+    ensures { λ r. ⌜ Sets n 1 (Set3 f v g w h x ∷ []) i (now (out .entry)) r (now (out .exit)) ⌝ }
+{
+    nine(
+        1,
+        f as u32 + 1,
+        v,
+        g as u32 + 1,
+        w,
+        h as u32 + 1,
+        x,
+        0,
+        0,
+        i,
+        n,
+        out,
+    )
+}
+
+// Of four.
+pub fn set4(
+    f: usize,
+    v: u32,
+    g: usize,
+    w: u32,
+    h: usize,
+    x: u32,
+    k: usize,
+    y: u32,
+    i: usize,
+    n: usize,
+    out: &mut [u32],
+) -> usize
+    requires { ⌜ ((((f < 82) × (g < 82)) × (h < 82)) × (k < 82)) × Fits n i 1 (length (now out)) ⌝ }
+    ensures { λ r. ⌜ Sets n 1 (Set4 f v g w h x k y ∷ []) i (now (out .entry)) r (now (out .exit)) ⌝ }
+{
+    nine(
+        1,
+        f as u32 + 1,
+        v,
+        g as u32 + 1,
+        w,
+        h as u32 + 1,
+        x,
+        k as u32 + 1,
+        y,
+        i,
+        n,
+        out,
+    )
 }
 
 // Whether a value read is there and is not v.

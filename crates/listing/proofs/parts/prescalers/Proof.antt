@@ -1,31 +1,27 @@
 -- `listing::parts::prescalers` meets its contract.
-use mathlib.Core.Path.{refl}
 use mathlib.Core.List.{[]}
 use native.Mathlib.Omega.{arith}
-use Rattle.types.specs.declared.Entry.the-variants.{Set4}
-use Rattle.rules.specs.Document01.Fields
-use Rattle.listing.proofs.Showing.{then, fits, sets}
+use Rattle.listing.proofs.Showing.{then, fits}
 use borrow.Author.Needs.{needs}
 use Rattle.listing.proofs.parts.prescalers.Tie as tie
 
+wait-requires : tie.Need-wait-requires
+wait-requires c κs = (omega arith, fits (c .before .before .before .set4 .ensures []) 1 (c .before .before .before .before .before .before .before .pre) (omega arith))
+
+set-requires : tie.Need-set-requires
+set-requires c κs = (omega arith, fits (then (c .before .before .before .before .before .before .before .set4 .ensures _) (c .before .before .before .wait .ensures)) 1 (c .before .before .before .before .before .before .before .before .before .before .before .pre) (omega arith))
+
 set-requires-2 : tie.Need-set-requires-2
-set-requires-2 c κs =
-    let x = c .before .before .before .before .before .before .before .before .before .before .before .before .before .before .before .args in
-    (omega arith, fits (then (then (sets (Set4 Fields.HPRE (x .b .ahb .pre) Fields.PPRE1 (x .b .apb1 .pre) Fields.PPRE2 (x .b .apb2 .pre) Fields.PPRE3 (x .b .apb3 .pre)) _ _ _ (λ reads. refl) (c .before .before .before .before .before .before .before .before .before .before .before .nine .ensures .0) (c .before .before .before .before .before .before .before .before .before .before .before .nine .ensures .1) (x .reads .now)) (c .before .before .before .before .before .before .before .wait .ensures)) (c .before .before .before .set .ensures (x .reads .now))) 1 (c .before .before .before .before .before .before .before .before .before .before .before .before .before .before .before .pre) (omega arith))
+set-requires-2 c κs = (omega arith, fits (then (then (c .before .before .before .before .before .before .before .before .before .before .before .set4 .ensures _) (c .before .before .before .before .before .before .before .wait .ensures)) (c .before .before .before .set .ensures _)) 1 (c .before .before .before .before .before .before .before .before .before .before .before .before .before .before .before .pre) (omega arith))
 
 turn-requires : tie.Need-turn-requires
 turn-requires c κs =
-    let x = c .before .before .before .before .before .before .before .before .before .before .before .before .before .before .before .before .before .before .before .args in
-    (omega arith, fits (then (then (then (sets (Set4 Fields.HPRE (x .b .ahb .pre) Fields.PPRE1 (x .b .apb1 .pre) Fields.PPRE2 (x .b .apb2 .pre) Fields.PPRE3 (x .b .apb3 .pre)) _ _ _ (λ reads. refl) (c .before .before .before .before .before .before .before .before .before .before .before .before .before .before .before .nine .ensures .0) (c .before .before .before .before .before .before .before .before .before .before .before .before .before .before .before .nine .ensures .1) (x .reads .now)) (c .before .before .before .before .before .before .before .before .before .before .before .wait .ensures)) (c .before .before .before .before .before .before .before .set .ensures (x .reads .now))) (c .before .before .before .set2 .ensures (x .reads .now))) 2 (c .before .before .before .before .before .before .before .before .before .before .before .before .before .before .before .before .before .before .before .pre) (omega arith))
+    (omega arith, fits (then (then (then (c .before .before .before .before .before .before .before .before .before .before .before .before .before .before .before .set4 .ensures _) (c .before .before .before .before .before .before .before .before .before .before .before .wait .ensures)) (c .before .before .before .before .before .before .before .set .ensures _)) (c .before .before .before .set2 .ensures _)) 2 (c .before .before .before .before .before .before .before .before .before .before .before .before .before .before .before .before .before .before .before .pre) (omega arith))
 
 returns : tie.Need-returns
 returns c =
-    let x = c .before .before .before .before .before .before .before .before .before .before .before .before .before .before .before .before .before .before .before .before .before .before .args in
-    then (then (then (then (sets (Set4 Fields.HPRE (x .b .ahb .pre) Fields.PPRE1 (x .b .apb1 .pre) Fields.PPRE2 (x .b .apb2 .pre) Fields.PPRE3 (x .b .apb3 .pre)) _ _ _ (λ reads. refl) (c .before .before .before .before .before .before .before .before .before .before .before .before .before .before .before .before .before .before .nine .ensures .0) (c .before .before .before .before .before .before .before .before .before .before .before .before .before .before .before .before .before .before .nine .ensures .1) (x .reads .now)) (c .before .before .before .before .before .before .before .before .before .before .before .before .before .before .wait .ensures)) (c .before .before .before .before .before .before .before .before .before .before .set .ensures (x .reads .now))) (c .before .before .before .before .before .before .set2 .ensures (x .reads .now)))
+    then (then (then (then (c .before .before .before .before .before .before .before .before .before .before .before .before .before .before .before .before .before .before .set4 .ensures _) (c .before .before .before .before .before .before .before .before .before .before .before .before .before .before .wait .ensures)) (c .before .before .before .before .before .before .before .before .before .before .set .ensures _)) (c .before .before .before .before .before .before .set2 .ensures _))
     (c .before .before .turn .ensures)
 
 pub prescalers-spec : {M : Type 1} → Rattle.listing.proofs.parts.prescalers.Statement.statement M
-prescalers-spec =
-    tie.close (tie.spec (λ c. search needs) (λ c. search needs) (λ c. search needs) (λ c. search needs) (λ c. search needs)
-    (λ c. search needs) (λ c. search needs) (λ c. search needs) (λ c κs. search needs) (λ c κs. search needs) (λ c κs. search needs)
-    set-requires-2 turn-requires (λ c. search needs) returns)
+prescalers-spec = tie.close (tie.spec (λ c κs. search needs) wait-requires set-requires set-requires-2 turn-requires (λ c. search needs) returns)
