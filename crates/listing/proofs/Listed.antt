@@ -9,6 +9,7 @@ use lib.Dec.{ltb, leb}
 use lib.ListN.{length, set, take, drop}
 use Rattle.types.specs.declared.Entry.{Entry}
 use Rattle.rules.specs.Words.{entryWords, nineAt, storedAt, listedFrom, listed}
+use Rattle.rules.specs.Document01.Entries.{most}
 use Rattle.rules.proofs.Document01.Run.{stored-length}
 use Rattle.listing.specs.Showing.{Showing, showing, storedIn, showOne, showAll, Ends}
 use Rattle.listing.specs.declared.Place.{Place}
@@ -81,14 +82,14 @@ drop-all [] = refl
 drop-all (x ∷ b) = drop-all b
 
 module _ (es : List Entry) (n : ℕ) {p : Place} {c : List ℕ} where
-  pub counted : (b : List ℕ) → n ≡ length b / 9 → Ends [] n 69 es 0 b p c → p .at ≡ length es
+  pub counted : (b : List ℕ) → n ≡ length b / 9 → Ends [] n most es 0 b p c → p .at ≡ length es
   counted b e s = ap (λ z. z .at) (s .shown) ∙ shown-listed es n 0 0 b e .1 ∙ omega arith
 
-  by-list : (b : List ℕ) → n ≡ length b / 9 → Ends [] n 69 es 0 b p c → p .at ∷ c ≡ listedFrom (length es ∷ b) 1 es
+  by-list : (b : List ℕ) → n ≡ length b / 9 → Ends [] n most es 0 b p c → p .at ∷ c ≡ listedFrom (length es ∷ b) 1 es
   by-list b e s = rw (counted b e s) (ap (λ z. length es ∷ z .room) (s .shown) ∙ shown-listed es n 0 (length es) b e .0)
 
   -- the part behind the first word, and then the count
-  pub whole : (list : List ℕ) → (length list ≡ 0 → ⊥) → n ≡ (length list - 1) / 9 → Ends [] n 69 es 0 (take (length list - 1) (drop 1 list)) p c
+  pub whole : (list : List ℕ) → (length list ≡ 0 → ⊥) → n ≡ (length list - 1) / 9 → Ends [] n most es 0 (take (length list - 1) (drop 1 list)) p c
       → set (take 1 list ++ (c ++ drop (length list - 1) (drop 1 list))) 0 (p .at) ≡ listed es list
   whole [] h e s = absurd (h refl)
   whole (x ∷ b) h e s =
@@ -97,7 +98,7 @@ module _ (es : List Entry) (n : ℕ) {p : Place} {c : List ℕ} where
       let d : drop (length (x ∷ b) - 1) b ≡ [] = ap (λ z. drop z b) l ∙ drop-all b in
       ap (λ z. p .at ∷ (c ++ z)) d ∙ ap (p .at ∷_) (append-nil c) ∙ by-list b (e ∙ ap (λ z. z / 9) l) (rw a at s)
 
-  pub counted-behind : (list : List ℕ) → (length list ≡ 0 → ⊥) → n ≡ (length list - 1) / 9 → Ends [] n 69 es 0 (take (length list - 1) (drop 1 list)) p c → p .at ≡ length es
+  pub counted-behind : (list : List ℕ) → (length list ≡ 0 → ⊥) → n ≡ (length list - 1) / 9 → Ends [] n most es 0 (take (length list - 1) (drop 1 list)) p c → p .at ≡ length es
   counted-behind [] h e s = absurd (h refl)
   counted-behind (x ∷ b) h e s =
       let l : length (x ∷ b) - 1 ≡ length b = omega arith in

@@ -9,6 +9,7 @@ use lib.Dec.{ltb, eqb}
 use lib.ListN.{length, getD, set}
 use Rattle.types.specs.declared.Entry.{Entry}
 use Rattle.types.specs.declared.Entry.the-variants.{Set, Set2, Set3, Set4, Wait, Wait2, Check, Read}
+use Rattle.rules.specs.Document01.Entries.{most}
 use Rattle.rules.specs.Document01.Walk.{isCheck}
 use Rattle.rules.specs.Words.{entryWords, storedAt}
 use Rattle.rules.proofs.Document01.Run.{stored-length}
@@ -238,7 +239,7 @@ checks reads n e i b {at} {down} {c} k p q s = record { shown = go (passedAt rea
 pub nothing : (reads : List ℕ) (n k i : ℕ) (b : List ℕ) → Shows reads n k [] i b i b
 nothing reads n k i b = record { shown = refl; near = omega arith }
 
-pub at-first : {n room : ℕ} → 9 * n ≤ room → Fits n 0 69 room
+pub at-first : {n room : ℕ} → 9 * n ≤ room → Fits n 0 most room
 at-first h = record { roomy = h; near = omega arith }
 
 -- an entry that sets, shown once

@@ -16,7 +16,7 @@ use Rattle.types.specs.declared.Answer.{Answer}
 use Rattle.types.specs.declared.Answer.the-variants.{Accepted, Refused}
 use Rattle.types.specs.declared.Plan.{Plan}
 use Rattle.types.specs.declared.Planned.{Planned}
-use Rattle.rules.specs.Document01.Entries.{planEntries, answerEntries, entriesOf}
+use Rattle.rules.specs.Document01.Entries.{most, planEntries, answerEntries, entriesOf}
 use Rattle.rules.specs.Document01.Walk.{Stand, before, ended, shownOf, passes, isCheck, steppedOf, freshBy, freshOf}
 use Rattle.rules.specs.Words.{entryWords, shownWords, storedAt, standAfter, ran, shownCount}
 use Rattle.rules.proofs.Document01.Run.{stored-length}
@@ -157,7 +157,7 @@ stays Accepted true c d = refl
 stays Accepted false c d = refl
 stays (Refused r) down c d = refl
 
-pub walked : (x : Planned) (reads room : List ℕ) (n : ℕ) → lastRead n ≤ length reads → {p : Place} {after final : List ℕ} → Ends (take (lastRead n) reads) n 69 (entriesOf x) 0 room p after
+pub walked : (x : Planned) (reads room : List ℕ) (n : ℕ) → lastRead n ≤ length reads → {p : Place} {after final : List ℕ} → Ends (take (lastRead n) reads) n most (entriesOf x) 0 room p after
     → final ≡ filled (n - p .at) (p .at) (shownWords (shownOf (endOf (x .answer) (p .down)))) after → final ≡ ran steppedOf (freshOf x) reads room n
 unfolding entriesOf
 walked x reads room n enough l f =

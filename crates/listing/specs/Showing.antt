@@ -8,6 +8,7 @@ use lib.Dec.{eqb, ltb}
 use lib.ListN.{length, getD}
 use Rattle.types.specs.declared.Entry.{Entry}
 use Rattle.types.specs.declared.Entry.the-variants.{Set, Set2, Set3, Set4, Wait, Wait2, Check, Read}
+use Rattle.rules.specs.Document01.Entries.{most}
 use Rattle.rules.specs.Document01.Walk.{isCheck}
 use Rattle.rules.specs.Words.{entryWords, storedAt}
 use Rattle.listing.specs.declared.Place.{Place}
@@ -66,7 +67,7 @@ far = 2 ^ 60
 -- n things have room, and the place, with k entries to come, does not wrap
 pub record Fits (n i k room : ℕ) : Type 0 where
   pub roomy : 9 * n ≤ room
-  pub near : i - far + k ≤ 69
+  pub near : i - far + k ≤ most
 
 -- the part es, of at most k entries, leads from place i to r
 pub record Shows (reads : List ℕ) (n k : ℕ) (es : List Entry) (i : ℕ) (before : List ℕ) (r : ℕ) (after : List ℕ) : Type 0 where

@@ -3,7 +3,7 @@ ghost use mathlib.Core.Path.{_≡_};
 ghost use mathlib.Core.List.{[], _∷_};
 ghost use Prim.Native.Nat.{_≤_, _*_, _-_};
 ghost use lib.ListN.{length};
-ghost use Rattle.rules.specs.Document01.Entries.{entriesOf, planEntries};
+ghost use Rattle.rules.specs.Document01.Entries.{entriesOf, most, planEntries};
 ghost use Rattle.rules.specs.Document01.Walk.{steppedOf, freshOf, shownOf};
 ghost use Rattle.rules.specs.Words.{listed, shownWords, shownCount, ran};
 ghost use Rattle.listing.specs.Showing.{far, Ends};
@@ -38,7 +38,7 @@ pub fn store_list(x: Planned, list: &mut [u32])
 // What a walk over the list shows until it ends. A refusal has no entries.
 fn show_list(x: Planned, n: usize, reads: &[u32], out: &mut [u32]) -> Place
     requires { ⌜ 9 * n ≤ length (now out) ⌝ }
-    ensures { λ r. ⌜ Ends (now (reads .entry)) n 69 (entriesOf x) 0 (now (out .entry)) r (now (out .exit)) ⌝ }
+    ensures { λ r. ⌜ Ends (now (reads .entry)) n most (entriesOf x) 0 (now (out .entry)) r (now (out .exit)) ⌝ }
 {
     let answer = x.answer;
     match answer {
@@ -50,7 +50,7 @@ fn show_list(x: Planned, n: usize, reads: &[u32], out: &mut [u32]) -> Place
 // The parts of the whole list, in order.
 fn show_plan(plan: Plan, n: usize, reads: &[u32], out: &mut [u32]) -> Place
     requires { ⌜ 9 * n ≤ length (now out) ⌝ }
-    ensures { λ r. ⌜ Ends (now (reads .entry)) n 69 (planEntries plan) 0 (now (out .entry)) r (now (out .exit)) ⌝ }
+    ensures { λ r. ⌜ Ends (now (reads .entry)) n most (planEntries plan) 0 (now (out .entry)) r (now (out .exit)) ⌝ }
 {
     let plls = plan.plls;
     let given = plan.clocks;

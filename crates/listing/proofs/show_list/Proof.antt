@@ -10,7 +10,7 @@ returns c = rw (c .before .before .before .before .enum-told .given .1) (c .befo
 
 returns-2 : tie.Need-returns-2
 unfolding entriesOf
-returns-2 c = rw (c .enum-told2 .given .1) (as-ends (nothing _ _ 69 0 _))
+returns-2 c = rw (c .enum-told2 .given .1) (as-ends (nothing _ _ _ 0 _))
 
 pub show-list-spec : {M : Type 1} → Rattle.listing.proofs.show_list.Statement.statement M
 show-list-spec =

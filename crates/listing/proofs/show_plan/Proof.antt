@@ -7,27 +7,27 @@ use borrow.Author.Needs.{needs}
 use Rattle.listing.proofs.show_plan.Tie as tie
 
 clocks-requires : tie.Need-clocks-requires
-clocks-requires c κs = fits (c .before .before .before .set-up-all .ensures []) 9 (at-first (c .before .before .before .before .before .before .before .before .before .before .pre)) (omega arith)
+clocks-requires c κs = fits (c .before .before .before .set-up-all .ensures []) _ (at-first (c .before .before .before .before .before .before .before .before .before .before .pre)) (omega arith)
 
 hse-on-requires : tie.Need-hse-on-requires
 hse-on-requires c κs =
     let r = c .before .before .before .before .before .before .before .before .before .before .before .before .before .before .args .reads .now in
-    fits (then (c .before .before .before .before .before .before .before .set-up-all .ensures r) (c .before .before .before .clocks .ensures)) 2 (at-first (c .before .before .before .before .before .before .before .before .before .before .before .before .before .before .pre)) (omega arith)
+    fits (then (c .before .before .before .before .before .before .before .set-up-all .ensures r) (c .before .before .before .clocks .ensures)) _ (at-first (c .before .before .before .before .before .before .before .before .before .before .before .before .before .before .pre)) (omega arith)
 
 sources-requires : tie.Need-sources-requires
 sources-requires c κs =
     let r = c .before .before .before .before .before .before .before .before .before .before .before .before .before .before .before .before .before .before .args .reads .now in
-    fits (then (then (c .before .before .before .before .before .before .before .before .before .before .before .set-up-all .ensures r) (c .before .before .before .before .before .before .before .clocks .ensures)) (c .before .before .before .hse-on .ensures)) 3 (at-first (c .before .before .before .before .before .before .before .before .before .before .before .before .before .before .before .before .before .before .pre)) (omega arith)
+    fits (then (then (c .before .before .before .before .before .before .before .before .before .before .before .set-up-all .ensures r) (c .before .before .before .before .before .before .before .clocks .ensures)) (c .before .before .before .hse-on .ensures)) _ (at-first (c .before .before .before .before .before .before .before .before .before .before .before .before .before .before .before .before .before .before .pre)) (omega arith)
 
 start-all-requires : tie.Need-start-all-requires
 start-all-requires c κs =
     let r = c .before .before .before .before .before .before .before .before .before .before .before .before .before .before .before .before .before .before .before .before .before .before .args .reads .now in
-    (c .before .before .before .before .before .before .before .before .before .before .before .before .before .before .before .before .before .which .ensures .1, fits (then (then (then (c .before .before .before .before .before .before .before .before .before .before .before .before .before .before .before .set-up-all .ensures r) (c .before .before .before .before .before .before .before .before .before .before .before .clocks .ensures)) (c .before .before .before .before .before .before .before .hse-on .ensures)) (c .before .before .before .sources .ensures r)) 6 (at-first (c .before .before .before .before .before .before .before .before .before .before .before .before .before .before .before .before .before .before .before .before .before .before .pre)) (omega arith))
+    (c .before .before .before .before .before .before .before .before .before .before .before .before .before .before .before .before .before .which .ensures .1, fits (then (then (then (c .before .before .before .before .before .before .before .before .before .before .before .before .before .before .before .set-up-all .ensures r) (c .before .before .before .before .before .before .before .before .before .before .before .clocks .ensures)) (c .before .before .before .before .before .before .before .hse-on .ensures)) (c .before .before .before .sources .ensures r)) _ (at-first (c .before .before .before .before .before .before .before .before .before .before .before .before .before .before .before .before .before .before .before .before .before .before .pre)) (omega arith))
 
 buses-requires : tie.Need-buses-requires
 buses-requires c κs =
     let r = c .before .before .before .before .before .before .before .before .before .before .before .before .before .before .before .before .before .before .before .before .before .before .before .before .before .before .args .reads .now in
-    fits (then (then (then (then (c .before .before .before .before .before .before .before .before .before .before .before .before .before .before .before .before .before .before .before .set-up-all .ensures r) (c .before .before .before .before .before .before .before .before .before .before .before .before .before .before .before .clocks .ensures)) (c .before .before .before .before .before .before .before .before .before .before .before .hse-on .ensures)) (c .before .before .before .before .before .before .before .sources .ensures r)) (c .before .before .before .start-all .ensures)) 10 (at-first (c .before .before .before .before .before .before .before .before .before .before .before .before .before .before .before .before .before .before .before .before .before .before .before .before .before .before .pre)) (omega arith)
+    fits (then (then (then (then (c .before .before .before .before .before .before .before .before .before .before .before .before .before .before .before .before .before .before .before .set-up-all .ensures r) (c .before .before .before .before .before .before .before .before .before .before .before .before .before .before .before .clocks .ensures)) (c .before .before .before .before .before .before .before .before .before .before .before .hse-on .ensures)) (c .before .before .before .before .before .before .before .sources .ensures r)) (c .before .before .before .start-all .ensures)) _ (at-first (c .before .before .before .before .before .before .before .before .before .before .before .before .before .before .before .before .before .before .before .before .before .before .before .before .before .before .pre)) (omega arith)
 
 returns : tie.Need-returns
 unfolding listWith
