@@ -1,4 +1,5 @@
--- Which PLLs are started, as bits: 1 for PLL1, 2 for PLL2, 4 for PLL3.
+-- For the private functions: which PLLs are started, as bits, 1 for PLL1, 2 for PLL2, 4 for PLL3 (document 01, Register entries: the starts in PLL
+-- order). Which entries a start has is the rules' `onEntries`.
 use mathlib.Core.Path.{_≡_}
 use mathlib.Core.Bool.{cond}
 use mathlib.Core.List.{List, [], _++_}

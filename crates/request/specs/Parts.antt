@@ -16,7 +16,7 @@ use Rattle.types.specs.declared.PllRequest.{PllRequest}
 use Rattle.types.specs.declared.Request.{Request}
 use Rattle.rules.specs.Document01.Bytes.{mco1Sources, mco2Sources, noPart}
 
--- a number that is 0 where nothing is wrong
+-- for the private functions: a number that is 0 where nothing is wrong
 pub record Finds (wrong : ℕ) (ok : Bool) : Type 0 where
   pub told : eqb wrong 0 ≡ ok
 
@@ -28,7 +28,7 @@ codeOk n l i = ltb (getD l i 0) n
 unfoldable pub u32leAt : List ℕ → ℕ → ℕ
 u32leAt l i = getD l i 0 + 256 * getD l (i + 1) 0 + 65_536 * getD l (i + 2) 0 + 16_777_216 * getD l (i + 3) 0
 
--- a flag and a number: 1 and any, or 0 and 0
+-- unset or set, 0 or 1, and the hertz, all 0 if unset
 abbrev pub hertzIs : (set number : ℕ) → Bool
 hertzIs set number = ltb set 2 && (eqb set 1 || eqb number 0)
 
