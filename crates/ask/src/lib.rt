@@ -1,4 +1,6 @@
 // A request and a chip in words, as docs/CODES.md has them, and the bytes that they stand for.
+#![tactic(auto)]
+
 ghost use Rattle.std.specs.Prelude.{◌≡◌, ◌+◌, ◌≤◌, length, set, take};
 ghost use Rattle.std.proofs.lemmas.List.Edits.{sets};
 ghost use Rattle.text.specs.Names.{before};
@@ -12,7 +14,7 @@ mod table;
 mod value;
 
 // Bytes for a place of a sheet, or what is wrong with a word.
-#[derive(Drop)]
+#[derive(Clone, Copy)]
 pub struct Said {
     pub wrong: u32,
     pub place: usize,
@@ -21,7 +23,7 @@ pub struct Said {
 }
 
 // What became of the words of a text: what is wrong with the first wrong one, and where it stands; 0 for none.
-#[derive(Drop)]
+#[derive(Clone, Copy)]
 pub struct Taken {
     pub wrong: u32,
     pub from: usize,

@@ -1,4 +1,5 @@
 // The C functions of the leaves: docs/CODES.md, The C functions, and include/clock_api.h.
+#![tactic(auto)]
 ghost use Rattle.std.specs.Prelude.{◌≡◌, [], ◌∷◌, length};
 ghost use Rattle.rules.specs.Words.{stored_from};
 

@@ -1,5 +1,7 @@
 // A request before its PLLs are planned: the limits, what an MCO fills, the source and the system clock. rcc.rs (the setters, sys_ck_setup) and
 // mco.rs (mco1_setup, mco2_setup).
+#![tactic(auto)]
+
 ghost use Rattle.std.specs.Prelude.{◌≡◌};
 ghost use Rattle.rules.specs.Document01.Request as Rules;
 ghost use Rattle.config.specs.Config as Config;
@@ -13,7 +15,7 @@ mod limits;
 
 // What steps 1 to 3 settle: the source, the system clock, whether it needs PLL1 P, and what each PLL is asked for,
 // by its number.
-#[derive(Drop)]
+#[derive(Clone, Copy)]
 pub struct Configured {
     pub answer: Answer,
     pub source: u32,

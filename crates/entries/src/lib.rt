@@ -1,4 +1,6 @@
 // How many register entries does an answer have, and which is each? Document 01, Register entries.
+#![tactic(auto)]
+
 ghost use Rattle.std.specs.Prelude.{◌≡◌, length};
 ghost use Rattle.rules.specs.Document01.Entries.{entries_of, plan_entries};
 ghost use Rattle.entries.specs.Place.{entry_at, after_clocks};
@@ -36,7 +38,7 @@ fn plan_count(plan: Plan) -> usize
 }
 
 // An entry of the list, or that it ends before.
-#[derive(Drop)]
+#[derive(Clone, Copy)]
 pub enum EntryAt {
     Is(Entry),
     Past,

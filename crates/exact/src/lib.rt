@@ -1,4 +1,5 @@
 // The manual's clock tree as code: from the words of a bank and the request's HSE hertz, the exact fraction of one clock. Document 01, The clock tree.
+#![tactic(auto)]
 ghost use Rattle.std.specs.Prelude.{◌≡◌};
 ghost use Rattle.rules.specs.Manual.Tree.{fed_by};
 ghost use Rattle.exact.specs.Exact.{path_by, reading_of};
@@ -17,7 +18,7 @@ mod pll;
 mod steps;
 
 // No clock, or the numerator and the denominator of its hertz. A number that does not fit 64 bits shows as 2^64 − 1.
-#[derive(Drop)]
+#[derive(Clone, Copy)]
 pub enum Reading {
     Nothing,
     Exactly(u64, u64),

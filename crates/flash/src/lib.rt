@@ -1,4 +1,6 @@
 // Flash wait states: rcc.rs, flash_setup.
+#![tactic(auto)]
+
 ghost use Rattle.std.specs.Prelude.{◌≡◌, ◌+◌, ◌<◌};
 ghost use Rattle.rules.specs.Document01.Flash.{column_of, at_column, flash_of};
 ghost use Rattle.flash.specs.Flash.{packed, placed};

@@ -1,5 +1,7 @@
 // FRACN and the VCO clock of a PLL in Fractional strategy: calc_fracn and calc_vco_ck of pll.rs. Each operation is an f32 operation in the
 // Rust's order, rounded once.
+#![tactic(auto)]
+
 ghost use Rattle.std.specs.Prelude.{◌≡◌, true, false, pos};
 ghost use Rattle.std.specs.Float.Ieee as Ieee;
 ghost use Rattle.std.specs.Float.{binary32, fin};
@@ -29,8 +31,8 @@ fn small_to_f32(n: u32) -> f32
 // x cut to a u32, for x from 1 to below 2^24. Its bit pattern is an exponent and 23 digits, which a leading 1 goes before: those below the
 // point are shifted out.
 fn cut_down(x: f32) -> u32
-    requires fact_1 { Ieee.le (fin false 1 (pos 0)) x ≡ true }
-    requires fact_2 { Ieee.lt x (fin false 1 (pos 24)) ≡ true }
+    requires low { Ieee.le (fin false 1 (pos 0)) x ≡ true }
+    requires high { Ieee.lt x (fin false 1 (pos 24)) ≡ true }
     ensures { result ≡ Ieee.to_unsigned 32 x }
 {
     let bits: u32 = f32::to_bits(x);
@@ -40,8 +42,8 @@ fn cut_down(x: f32) -> u32
 
 // The same for x from 2^24 to below 2^32, which is a whole number: zeros come after the digits.
 fn cut_up(x: f32) -> u32
-    requires fact_1 { Ieee.le (fin false 1 (pos 24)) x ≡ true }
-    requires fact_2 { Ieee.lt x (fin false 1 (pos 32)) ≡ true }
+    requires low { Ieee.le (fin false 1 (pos 24)) x ≡ true }
+    requires high { Ieee.lt x (fin false 1 (pos 32)) ≡ true }
     ensures { result ≡ Ieee.to_unsigned 32 x }
 {
     let bits: u32 = f32::to_bits(x);
@@ -67,7 +69,7 @@ fn cut_u32(x: f32) -> u32
 }
 
 // Reference, N, divider and output, as they travel together to the FRACN step.
-#[derive(Drop)]
+#[derive(Clone, Copy)]
 pub struct FracnInput {
     pub reference: f32,
     pub n: f32,

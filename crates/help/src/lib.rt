@@ -1,4 +1,5 @@
 // What there is to say of a refusal, of a wrong word, and of no word at all.
+#![tactic(auto)]
 use ask::Taken;
 use print::say;
 

@@ -1,5 +1,7 @@
 // A hertz that may be unset: what stands for it, whether it is set or at 0 Hz, and which part of a request asks for none. Document 01, One call, from
 // the top.
+#![tactic(auto)]
+
 ghost use Rattle.std.specs.Prelude.{◌≡◌};
 ghost use Rattle.rules.specs.Document01.Bytes.{is_unset, is_integer, is_no_part};
 ghost use Rattle.rules.specs.Document01.Entries.{bit};

@@ -1,4 +1,6 @@
 // A PLL, an entry, a word of a bank, a byte of a request and a register as the numbers of one line: docs/CODES.md, The page of a plan.
+#![tactic(auto)]
+
 ghost use Rattle.std.specs.Prelude.{◌≡◌, cond, ◌||◌, ◌+◌, ◌%◌, eqb};
 ghost use Rattle.rules.specs.Document01.Entries.{bit};
 ghost use Rattle.rules.specs.Manual.Tree.{word as word_of};

@@ -1,4 +1,5 @@
 // A plan's entries as words, nine for each, in one pass over the plan: the list itself, and what a walk over it shows. docs/CODES.md, Entries as words.
+#![tactic(auto)]
 ghost use Rattle.std.specs.Prelude.{◌≡◌, [], ◌∷◌, ◌≤◌, ◌*◌, ◌-◌, length};
 ghost use Rattle.rules.specs.Document01.Entries.{entries_of, most, plan_entries};
 ghost use Rattle.rules.specs.Document01.Walk.{stepped_of, fresh_of, shown_of};
@@ -12,7 +13,7 @@ mod parts;
 mod shows;
 
 // How many things are shown, and whether the check of CSIRDY has ended the list.
-#[derive(Drop)]
+#[derive(Clone, Copy)]
 pub struct Place {
     pub at: usize,
     pub down: bool,
@@ -62,7 +63,7 @@ fn show_plan(plan: Plan, n: usize, reads: &[u32], out: &mut [u32]) -> Place
 }
 
 // What a walk shows at its end.
-#[derive(Drop)]
+#[derive(Clone, Copy)]
 struct End {
     kind: u32,
     number: u32,

@@ -1,4 +1,5 @@
 // A plan's page: every reported clock, the PLLs, the wait states; then what else is asked for.
+#![tactic(auto)]
 ghost use Rattle.std.specs.Prelude.{◌<◌};
 
 use types::{Hertz, Planned, Pll};

@@ -1,4 +1,5 @@
 // The planner from the command line: a request in words, planned and shown. README.md; docs/CODES.md, A request in words.
+#![tactic(auto)]
 mod answer;
 mod input;
 mod refused;

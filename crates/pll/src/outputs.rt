@@ -21,7 +21,7 @@ pub fn none_zero(a: PllRequest) -> bool
 }
 
 // The least and the largest output, where one is requested. A doubled P may pass 32 bits.
-#[derive(Drop)]
+#[derive(Clone, Copy)]
 pub enum Outputs {
     Nothing,
     Between(u64, u64),

@@ -46,7 +46,7 @@ pub fn settle(
 }
 
 // The numbers chosen for a PLL.
-#[derive(Drop)]
+#[derive(Clone, Copy)]
 pub struct Chosen {
     pub vcosel: u32,
     pub target: u32,
@@ -57,7 +57,7 @@ pub struct Chosen {
 }
 
 // What N is multiplied with: the fraction, and the VCO.
-#[derive(Drop)]
+#[derive(Clone, Copy)]
 pub enum Multiplied {
     By(Fraction, u32),
     OutOfRange,

@@ -4,7 +4,7 @@ ghost use Rattle.rules.specs.Document01.Target.{target_of};
 ghost use Rattle.pll.specs.Spans.{range_for};
 
 // Whether it is the medium range, VCOSEL, and the ends of its outputs.
-#[derive(Drop)]
+#[derive(Clone, Copy)]
 pub struct VcoRange {
     pub medium: bool,
     pub vcosel: u32,

@@ -1,4 +1,5 @@
 // The registers of each PLL as words, for a request: document 02, Item 1. docs/CODES.md, PLL registers as words.
+#![tactic(auto)]
 ghost use Rattle.std.specs.Prelude.{◌≡◌, ◌<◌, length};
 ghost use Rattle.rules.specs.Words.{stored_from};
 ghost use Rattle.pll_registers.specs.Fields.{fields_of};
@@ -11,7 +12,7 @@ use types::{Answer, Chip, Plan, Pll, Refusal};
 mod pack;
 
 // What CFGR, DIVR and FRACR hold of one PLL: N and the dividers as they multiply and divide. A divider of 0 is an output that is not enabled.
-#[derive(Drop)]
+#[derive(Clone, Copy)]
 pub struct PllFields {
     pub src: u32,
     pub rge: u32,

@@ -1,4 +1,5 @@
 // The settings of one PLL as words, and storing them: docs/CODES.md, A PLL as words.
+#![tactic(auto)]
 ghost use Rattle.std.specs.Prelude.{◌≡◌};
 ghost use Rattle.pll_words.specs.PllWords.{fracen_of, fracn_of, setting_words, on_of, divider_of, hertz_of, outputs_words, pll_stored};
 
@@ -48,7 +49,7 @@ pub fn setting_words(x: Pll) -> [u32; 9]
 }
 
 // An output's three words.
-#[derive(Drop)]
+#[derive(Clone, Copy)]
 struct Words {
     on: u32,
     divider: u32,

@@ -1,4 +1,6 @@
 // The prescalers: rcc.rs, HPRE, PPRE and the timers; mco.rs, calculate_prescaler.
+#![tactic(auto)]
+
 ghost use Rattle.std.specs.Prelude.{◌≡◌, cond, leb, ◌≤◌};
 ghost use Rattle.rules.specs.Document01.Hertz.{ratio_of, hertz_or};
 ghost use Rattle.rules.specs.Document01.Buses.{hpre_of, ppre_of, ahb_of, apb_of, timer_of};

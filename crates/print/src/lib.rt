@@ -1,4 +1,5 @@
 // Lines of text: templates with their numbers, written to standard output.
+#![tactic(auto)]
 
 pub fn say(text: &[u8]) {
     io::write_all(1, text);

@@ -1,4 +1,5 @@
 // The voltage walk: pwr.rs, Pwr::freeze, one entry at a time.
+#![tactic(auto)]
 ghost use Rattle.std.specs.Prelude.{◌≡◌, ◌<◌, length};
 ghost use Rattle.rules.specs.Document01.Walk.{shown_of, voltage_to, voltage_stepped};
 ghost use Rattle.rules.specs.Words.{shown_count, ran};
@@ -9,7 +10,7 @@ use types::{Entry, Refusal, Shown};
 
 // The target's scale, and the place: 0 before the wait for ACTVOSRDY, 1 before the read of ACTVOS, 2 before VOS is set, 3 before the wait for
 // VOSRDY, 4 and above finished.
-#[derive(Drop)]
+#[derive(Clone, Copy)]
 pub struct VoltageWalk {
     pub target: u32,
     pub at: u32,

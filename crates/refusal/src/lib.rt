@@ -1,4 +1,6 @@
 // The number of each refusal, as document 01 has it, and of an answer.
+#![tactic(auto)]
+
 ghost use Rattle.std.specs.Prelude.{◌≡◌};
 ghost use Rattle.rules.specs.Document01.Refusals.{number_of, refusal_of, code_of};
 ghost use Rattle.refusal.specs.Listed.{Is};

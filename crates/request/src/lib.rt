@@ -1,4 +1,6 @@
 // The byte form of a request, read beside the chip's numbers: document 01, One call, from the top, second paragraph, and refusal 1.
+#![tactic(auto)]
+
 ghost use Rattle.std.specs.Prelude.{◌≡◌};
 ghost use Rattle.rules.specs.Document01.Bytes.{size_of};
 ghost use Rattle.rules.specs.Document01.Plan.{request_of};
@@ -11,7 +13,7 @@ mod numbers;
 mod parts;
 
 // A request that was read, with the chip; where it was refused, both are blank.
-#[derive(Drop)]
+#[derive(Clone, Copy)]
 pub struct RequestRead {
     pub read: bool,
     pub request: Request,
@@ -94,7 +96,7 @@ pub fn read_request(bytes: &[u8], chip: Chip) -> RequestRead
 }
 
 // One PLL's part that was read; where it was refused, nothing is requested.
-#[derive(Drop)]
+#[derive(Clone, Copy)]
 pub struct PartRead {
     pub read: bool,
     pub part: PllRequest,

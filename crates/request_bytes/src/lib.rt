@@ -1,4 +1,6 @@
 // The byte form of a request, written: document 01, One call, from the top, second paragraph.
+#![tactic(auto)]
+
 ghost use Rattle.std.specs.Prelude.{◌≡◌, length};
 ghost use Rattle.request_bytes.specs.Writing.{is_written, room_after};
 

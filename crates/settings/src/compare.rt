@@ -7,7 +7,7 @@ use print::say;
 use text::Number;
 
 // How many numbers and settings are compared, and how many numbers differ; the letter of the last setting.
-#[derive(Drop)]
+#[derive(Clone, Copy)]
 pub struct Tally {
     pub numbers: u64,
     pub settings: u64,

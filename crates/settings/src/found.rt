@@ -2,7 +2,7 @@
 use types::{Planned, Pll};
 
 // Whether a word is wrong (0 for none), and the numbers in the order of their names. Beside a refusal they are 0.
-#[derive(Drop)]
+#[derive(Clone, Copy)]
 pub struct Found {
     pub wrong: u32,
     pub numbers: [u32; 19],

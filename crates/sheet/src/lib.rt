@@ -1,5 +1,7 @@
 // A sheet: 115 bytes that hold a request and a chip, as docs/CODES.md has it (A request in words): the 106 of a request with three PLLs, the
 // chip's seven numbers, what is shown, and how many bytes of a request are given.
+#![tactic(auto)]
+
 ghost use Rattle.std.specs.Prelude.{◌≡◌, min, get_or, take, drop};
 ghost use Rattle.sheet.specs.Sheet.{fresh_sheet, all_zero, bytes_meant, request_length, chip_on};
 

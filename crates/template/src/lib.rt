@@ -1,4 +1,6 @@
 // Texts with places for numbers: docs/CODES.md, Templates.
+#![tactic(auto)]
+
 ghost use Rattle.std.specs.Prelude.{◌≡◌, ◌<◌, ◌≤◌, min, length, get_or};
 ghost use Rattle.std.proofs.lemmas.List.Edits.{sets};
 ghost use Rattle.text.specs.Numbers.{is_digit};
@@ -8,7 +10,7 @@ ghost use Rattle.template.specs.Template.{at_stage, shown_by, in_braces, next, c
 mod write;
 
 // Where the reading of a template stands.
-#[derive(Drop)]
+#[derive(Clone, Copy)]
 pub struct State {
     pub stage: u32,
     pub shown: bool,

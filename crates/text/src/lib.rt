@@ -1,11 +1,13 @@
 // Bytes as text: where a byte stands, the number of a name, numbers and hertz in decimal. No clock is mentioned.
+#![tactic(auto)]
+
 ghost use Rattle.std.specs.Prelude.{◌≡◌, length, get_or};
 ghost use Rattle.text.specs.Names.{before, is_name, number_in};
 ghost use Rattle.text.specs.Numbers.{read_some, hertz_of};
 
 mod decimal;
 
-#[derive(Drop)]
+#[derive(Clone, Copy)]
 pub enum Number {
     Wrong,
     Is(u32),

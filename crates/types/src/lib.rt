@@ -1,19 +1,20 @@
 // What a request, the chip's state, a plan, a register entry and an answer are. Types only: what is right is said in crates/rules/specs.
+#![tactic(auto)]
 
 // A frequency in hertz, where one is set: the Rust's Option<u32>.
-#[derive(Drop)]
+#[derive(Clone, Copy)]
 pub enum Hertz {
     Unset,
     Hz(u32),
 }
 
-#[derive(Drop)]
+#[derive(Clone, Copy)]
 pub enum Strategy {
     Integer,
     Fractional,
 }
 
-#[derive(Drop)]
+#[derive(Clone, Copy)]
 pub enum Mco1Source {
     Hsi,
     Lse,
@@ -22,7 +23,7 @@ pub enum Mco1Source {
     Hsi48,
 }
 
-#[derive(Drop)]
+#[derive(Clone, Copy)]
 pub enum Mco2Source {
     Sysclk,
     Pll2P,
@@ -32,7 +33,7 @@ pub enum Mco2Source {
     Lsi,
 }
 
-#[derive(Drop)]
+#[derive(Clone, Copy)]
 pub struct PllRequest {
     pub strategy: Strategy,
     pub p: Hertz,
@@ -41,7 +42,7 @@ pub struct PllRequest {
 }
 
 // The PLLs stand by their number: PLL1 first. On a chip with two PLLs the third is not looked at.
-#[derive(Drop)]
+#[derive(Clone, Copy)]
 pub struct Request {
     pub hse: Hertz,
     pub lse: Hertz,
@@ -60,7 +61,7 @@ pub struct Request {
     pub plls: [PllRequest; 3],
 }
 
-#[derive(Drop)]
+#[derive(Clone, Copy)]
 pub enum Scale {
     Scale0,
     Scale1,
@@ -69,7 +70,7 @@ pub enum Scale {
 }
 
 // HSIDIV: what the chip divides HSI by.
-#[derive(Drop)]
+#[derive(Clone, Copy)]
 pub enum Hsidiv {
     Div1,
     Div2,
@@ -79,7 +80,7 @@ pub enum Hsidiv {
 
 // The chip as it is handed in: the PLL count, for each PLL by its number whether P may divide by an odd number (0 or 1), the voltage scale's
 // number, and HSION and HSIDIV as read. Any number can stand in any place; refusal 1 judges them.
-#[derive(Drop)]
+#[derive(Clone, Copy)]
 pub struct Chip {
     pub plls: u32,
     pub odd: [u32; 3],
@@ -89,7 +90,7 @@ pub struct Chip {
 }
 
 // The chip as the rules see it: whether there are three PLLs, the permissions by PLL number, the scale, HSION and HSIDIV.
-#[derive(Drop)]
+#[derive(Clone, Copy)]
 pub struct ChipState {
     pub three: bool,
     pub odd: [bool; 3],
@@ -99,7 +100,7 @@ pub struct ChipState {
 }
 
 // The listed refusals, in the order of their numbers, which specs/Document01/Refusals of crates/rules gives them.
-#[derive(Drop)]
+#[derive(Clone, Copy)]
 pub enum Refusal {
     OutsideCodes,
     BankLength,
@@ -128,7 +129,7 @@ pub enum Refusal {
 }
 
 // A register entry: up to four fields with the values to set together, up to two to wait for, one to check, or one to read.
-#[derive(Drop)]
+#[derive(Clone, Copy)]
 pub enum Entry {
     Set(usize, u32),
     Set2(usize, u32, usize, u32),
@@ -141,21 +142,21 @@ pub enum Entry {
 }
 
 // An output of a PLL: its divider and its clock in hertz.
-#[derive(Drop)]
+#[derive(Clone, Copy)]
 pub enum PllOutput {
     Off,
     On(u32, u32),
 }
 
 // What is added to N: nothing in Integer strategy, FRACN / 8192 in Fractional.
-#[derive(Drop)]
+#[derive(Clone, Copy)]
 pub enum Fraction {
     Whole,
     Part(u32),
 }
 
 // What is chosen for a PLL that has an output requested.
-#[derive(Drop)]
+#[derive(Clone, Copy)]
 pub struct PllSettings {
     pub vcosel: u32,
     pub target: u32,
@@ -170,27 +171,27 @@ pub struct PllSettings {
     pub r: PllOutput,
 }
 
-#[derive(Drop)]
+#[derive(Clone, Copy)]
 pub enum Pll {
     Idle,
     Runs(PllSettings),
 }
 
 // One PLL of a plan.
-#[derive(Drop)]
+#[derive(Clone, Copy)]
 pub struct PllPlan {
     pub pll: Pll,
 }
 
 // A bus: its divisor and its clock in hertz.
-#[derive(Drop)]
+#[derive(Clone, Copy)]
 pub struct Bus {
     pub pre: u32,
     pub clock: u32,
 }
 
 // AHB and APB1 to 3.
-#[derive(Drop)]
+#[derive(Clone, Copy)]
 pub struct Buses {
     pub ahb: Bus,
     pub apb1: Bus,
@@ -199,34 +200,34 @@ pub struct Buses {
 }
 
 // A clock output: its prescaler, and its clock where it has one.
-#[derive(Drop)]
+#[derive(Clone, Copy)]
 pub struct Mco {
     pub pre: u32,
     pub clock: Hertz,
 }
 
-#[derive(Drop)]
+#[derive(Clone, Copy)]
 pub struct Mcos {
     pub mco1: Mco,
     pub mco2: Mco,
 }
 
 // Flash wait states: LATENCY, and WRHIGHFREQ's delay.
-#[derive(Drop)]
+#[derive(Clone, Copy)]
 pub struct Waits {
     pub latency: u32,
     pub delay: u32,
 }
 
 // A selector's code and its clock.
-#[derive(Drop)]
+#[derive(Clone, Copy)]
 pub struct Selected {
     pub sel: u32,
     pub clock: u32,
 }
 
 // The clocks reported in hertz, beside those of the buses, the clock outputs and the PLLs.
-#[derive(Drop)]
+#[derive(Clone, Copy)]
 pub struct Clocks {
     pub sys: u32,
     pub timx: u32,
@@ -242,7 +243,7 @@ pub struct Clocks {
 }
 
 // The codes of the selectors: the PLLs' source, the system clock's, the peripheral clock's and the clock outputs'.
-#[derive(Drop)]
+#[derive(Clone, Copy)]
 pub struct Selectors {
     pub src: u32,
     pub sw: u32,
@@ -252,7 +253,7 @@ pub struct Selectors {
 }
 
 // A whole plan, in parts. The PLLs stand by their number.
-#[derive(Drop)]
+#[derive(Clone, Copy)]
 pub struct Plan {
     pub clocks: Clocks,
     pub buses: Buses,
@@ -264,72 +265,72 @@ pub struct Plan {
     pub plls: [PllPlan; 3],
 }
 
-#[derive(Drop)]
+#[derive(Clone, Copy)]
 pub enum Answer {
     Accepted,
     Refused(Refusal),
 }
 
 // The answer to a request. Beside a refusal stands the blank plan.
-#[derive(Drop)]
+#[derive(Clone, Copy)]
 pub struct Planned {
     pub answer: Answer,
     pub plan: Plan,
 }
 
 // What a step answers: its value, or the refusal. specs/Answers of crates/rules reads each as a result of the rules.
-#[derive(Drop)]
+#[derive(Clone, Copy)]
 pub enum PllAnswer {
     Planned(Pll),
     Refused(Refusal),
 }
 
-#[derive(Drop)]
+#[derive(Clone, Copy)]
 pub enum BusAnswer {
     Divided(Bus),
     Refused(Refusal),
 }
 
-#[derive(Drop)]
+#[derive(Clone, Copy)]
 pub enum BusesAnswer {
     Divided(Buses),
     Refused(Refusal),
 }
 
-#[derive(Drop)]
+#[derive(Clone, Copy)]
 pub enum InputAnswer {
     Clock(u32),
     Refused(Refusal),
 }
 
-#[derive(Drop)]
+#[derive(Clone, Copy)]
 pub enum McoAnswer {
     Prescaled(Mco),
     Refused(Refusal),
 }
 
-#[derive(Drop)]
+#[derive(Clone, Copy)]
 pub enum McosAnswer {
     Prescaled(Mcos),
     Refused(Refusal),
 }
 
 // What the search for the reference divider M finds.
-#[derive(Drop)]
+#[derive(Clone, Copy)]
 pub enum FoundM {
     Nothing,
     M(u32),
 }
 
 // What the FRACN step gives.
-#[derive(Drop)]
+#[derive(Clone, Copy)]
 pub enum Fracn {
     Value(u16),
     OutOfRange,
 }
 
 // What a walk shows: an entry to carry out, the end of the list, or the refusal that ended it.
-#[derive(Drop)]
+#[derive(Clone, Copy)]
 pub enum Shown {
     Next(Entry),
     Finished,
@@ -337,7 +338,7 @@ pub enum Shown {
 }
 
 // Why the chip was reset: reset_reason.rs, with its names.
-#[derive(Drop)]
+#[derive(Clone, Copy)]
 pub enum ResetReason {
     PowerOnReset,
     PinReset,
@@ -350,7 +351,7 @@ pub enum ResetReason {
 }
 
 // The reason with the word to write back, or a refusal.
-#[derive(Drop)]
+#[derive(Clone, Copy)]
 pub enum ResetAnswer {
     Refused(Refusal),
     Reason(ResetReason, u32),

@@ -1,5 +1,6 @@
 // The Rust's answers to a stored sample of requests, replayed: each request through the planner, and every clock, divisor and entry, or the
 // refusal's number, against what the file has. docs/VECTORS.md.
+#![tactic(auto)]
 mod input;
 mod record;
 mod tally;

@@ -1,4 +1,5 @@
 // The register walk: a plan's list one entry at a time, moved on in place by the values read. rcc.rs (freeze, its polling).
+#![tactic(auto)]
 ghost use Rattle.std.specs.Prelude.{◌≡◌, length};
 ghost use Rattle.rules.specs.Document01.Walk.{shown_of, stepped_of, fresh_of};
 ghost use Rattle.rules.specs.Words.{shown_count, ran};
@@ -8,7 +9,7 @@ use entries::EntryAt;
 use types::{Answer, Entry, Planned, Refusal, Shown};
 
 // The answer whose list is walked, the place in the list, and whether the check of CSIRDY has ended the walk.
-#[derive(Drop)]
+#[derive(Clone, Copy)]
 pub struct Walk {
     pub planned: Planned,
     pub at: usize,

@@ -1,7 +1,7 @@
 // A simulated chip: a flag comes up at the third read of it, a value that is asked for stands there at once.
 use types::Entry;
 
-#[derive(Drop)]
+#[derive(Clone, Copy)]
 pub struct Reads {
     pub a: u32,
     pub b: u32,

@@ -1,4 +1,6 @@
 // Entries and what a walk shows as nine words each, and storing them: docs/CODES.md, Entries as words.
+#![tactic(auto)]
+
 ghost use Rattle.std.specs.Prelude.{◌≡◌, [], ◌∷◌};
 ghost use Rattle.rules.specs.Words.{field_word, entry_words, shown_words, stored_at, shown_count};
 

@@ -65,10 +65,10 @@ module _ (P : List Entry → Type 0) (more : (e : Entry) (es : List Entry) → P
   unfolding key_of
   key source target m es p = search laws
 
-  goes_on : (source target best : ℕ) (least : ℤ) (from count : ℕ) (es : List Entry) → P es → Keeps P (min_from source target best least from count es)
+  goes_on : (source target from count best : ℕ) (least : ℤ) (es : List Entry) → P es → Keeps P (min_from source target best least from count es)
   unfolding min_from
-  goes_on source target best least from zero es p = ending p
-  goes_on source target best least from (suc count) es p = follows _ (key source target from es p) (λ k. goes_on source target _ _ (suc from) count)
+  goes_on source target from zero best least es p = ending p
+  goes_on source target from (suc count) best least es p = follows _ (key source target from es p) (λ k. goes_on source target (suc from) count _ _)
 
   least_key : (source target from count : ℕ) (es : List Entry) → P es → Keeps P (min_by_key source target from count es)
   unfolding min_by_key

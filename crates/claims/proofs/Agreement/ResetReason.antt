@@ -11,7 +11,7 @@ use Rattle.laws.proofs.Tests.{by_test}
 use Rattle.rules.specs.Manual.ResetFlags.{RMVF, PIN, BOR, SFT, IWDG, WWDG, LPWR, bit_of}
 use Rattle.rules.specs.Document01.Entries.{bit}
 use Rattle.rules.specs.Document01.ResetReason.{flags_of, reason_by, reason_of, write_back_of}
-use Rattle.claims.specs.Rust.ResetReason.{is_reset_occurred, scrutinee, equal, matches, reason_by_is, modify_rmvf, get_reset_reason}
+use Rattle.claims.specs.Rust.ResetReason.{is_reset_occurred, scrutinee, equal, matches, reason_by_tuple, modify_rmvf, get_reset_reason}
 
 -- the number that booleans stand for, the high bit first
 abbrev value : ℕ → List Bool → ℕ
@@ -75,8 +75,8 @@ module _ (w : ℕ) where
       (λ (t : eqb f (2 ^ PIN) ≡ true). rw (eqb-true f (2 ^ PIN) t))
       (λ (n : eqb f (2 ^ PIN) ≡ false). rw n)
 
-  same_reason : reason_by_is (scrutinee w) w ≡ reason_by (flags_of w) w
-  unfolding reason_by_is reason_by
+  same_reason : reason_by_tuple (scrutinee w) w ≡ reason_by (flags_of w) w
+  unfolding reason_by_tuple reason_by
   same_reason =
       rw (
         arm (false ∷ false ∷ false ∷ false ∷ true ∷ true ∷ []) refl,

@@ -22,7 +22,7 @@ use Rattle.rules.specs.Document01.OnePll.{wanted, none_zero, counted_outputs, le
 use Rattle.claims.proofs.Legal.OnePll.{Good, range_good}
 use Rattle.claims.specs.Rust.Run.{Outcome, panics, ends, assert, contains}
 use Rattle.claims.specs.Rust.Pll as Pll
-use Rattle.claims.specs.Rust.Pll.{VcoRange, None, Some, PllSetup, mapped, outputs_of, fold_min_is, fold_max_is, find_range, output_div, target_setup, divider_setup, range_setup, vco_output_divider_setup}
+use Rattle.claims.specs.Rust.Pll.{VcoRange, None, Some, PllSetup, mapped, outputs_of, fold_min, fold_max, find_range, output_div, target_setup, divider_setup, range_setup, vco_output_divider_setup}
 use Rattle.claims.specs.Rust.Rcc.{pll_config}
 use Rattle.laws.proofs.Tests.{and_left, and_right, by_test}
 use Rattle.claims.proofs.Agreement.Agree.{all_panic}
@@ -82,7 +82,7 @@ zero_range source a low high es f =
 
 pub zero_panics : (source : ℕ) (a : PllRequest) (odd : Bool) (es : List Entry) → none_zero a ≡ false → vco_output_divider_setup source (pll_config a) odd es ≡ panics
 unfolding vco_output_divider_setup
-zero_panics source a odd es f = all_panic (outputs_of (pll_config a) odd es) _ (λ xs es1. zero_range source a (fold_min_is 0 xs) (fold_max_is 0 xs) es1 f)
+zero_panics source a odd es f = all_panic (outputs_of (pll_config a) odd es) _ (λ xs es1. zero_range source a (fold_min 0 xs) (fold_max 0 xs) es1 f)
 
 -- ---- with no output of 0 Hz
 -- the setup of an M, as the Rust has it
@@ -137,7 +137,7 @@ module _ (source : ℕ) (a : PllRequest) (odd : Bool) (es : List Entry) (some : 
 
   collected : Fits odd a.p → vco ≡ ranged
   unfolding vco_output_divider_setup
-  collected f = rw (mapped_is odd a.p es f, mapped_whole a.q es, mapped_whole a.r es, folds.fold_min, folds.fold_max)
+  collected f = rw (mapped_is odd a.p es f, mapped_whole a.q es, mapped_whole a.r es, folds.least_fold, folds.largest_fold)
 
   uncollected : mapped a.p odd es ≡ panics → vco ≡ panics
   unfolding vco_output_divider_setup

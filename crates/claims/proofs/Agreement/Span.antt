@@ -13,27 +13,27 @@ use Rattle.types.specs.declared.Hertz.TheVariants.{Unset, Hz}
 use Rattle.rules.specs.Document01.OnePll.{counted_p, counted, least, largest}
 use Rattle.rules.proofs.Document01.Span.{Pos, outputs, Inside, counted_pos}
 use Rattle.claims.specs.Rust.Run.{panics, ends}
-use Rattle.claims.specs.Rust.Pll.{mapped, fold_min_is, fold_max_is}
+use Rattle.claims.specs.Rust.Pll.{mapped, fold_min, fold_max}
 use Rattle.laws.proofs.Tests.{by_test}
 use Rattle.claims.proofs.Agreement.Numbers.{nonzero}
 
 -- ---- the folds of the Rust
 pub record Folded (odd : Bool) (p q r : Hertz) : Type 0 where
-  pub fold_min : fold_min_is 0 (outputs odd p q r) ≡ least (outputs odd p q r)
-  pub fold_max : fold_max_is 0 (outputs odd p q r) ≡ largest (outputs odd p q r)
+  pub least_fold : fold_min 0 (outputs odd p q r) ≡ least (outputs odd p q r)
+  pub largest_fold : fold_max 0 (outputs odd p q r) ≡ largest (outputs odd p q r)
 
 pub folded : (odd : Bool) (p q r : Hertz) → Pos p → Pos q → Pos r → Folded odd p q r
-folded odd Unset Unset Unset a b c = record { fold_min = refl; fold_max = refl }
-folded odd (Hz p) Unset Unset a b c = record { fold_min = refl; fold_max = refl }
-folded odd Unset (Hz q) Unset a b c = record { fold_min = refl; fold_max = refl }
-folded odd Unset Unset (Hz r) a b c = record { fold_min = refl; fold_max = refl }
-folded odd (Hz p) (Hz q) Unset a b c = record { fold_min = rw (nonzero (counted_p odd p) (counted_pos odd p a)); fold_max = refl }
-folded odd (Hz p) Unset (Hz r) a b c = record { fold_min = rw (nonzero (counted_p odd p) (counted_pos odd p a)); fold_max = refl }
-folded odd Unset (Hz q) (Hz r) a b c = record { fold_min = rw (nonzero q b); fold_max = refl }
+folded odd Unset Unset Unset a b c = record { least_fold = refl; largest_fold = refl }
+folded odd (Hz p) Unset Unset a b c = record { least_fold = refl; largest_fold = refl }
+folded odd Unset (Hz q) Unset a b c = record { least_fold = refl; largest_fold = refl }
+folded odd Unset Unset (Hz r) a b c = record { least_fold = refl; largest_fold = refl }
+folded odd (Hz p) (Hz q) Unset a b c = record { least_fold = rw (nonzero (counted_p odd p) (counted_pos odd p a)); largest_fold = refl }
+folded odd (Hz p) Unset (Hz r) a b c = record { least_fold = rw (nonzero (counted_p odd p) (counted_pos odd p a)); largest_fold = refl }
+folded odd Unset (Hz q) (Hz r) a b c = record { least_fold = rw (nonzero q b); largest_fold = refl }
 folded odd (Hz p) (Hz q) (Hz r) a b c =
     let x : 1 ≤ counted_p odd p = counted_pos odd p a in
     let y : 1 ≤ min (counted_p odd p) q = omega arith in
-    record { fold_min = rw (nonzero (counted_p odd p) x, nonzero (min (counted_p odd p) q) y); fold_max = refl }
+    record { least_fold = rw (nonzero (counted_p odd p) x, nonzero (min (counted_p odd p) q) y); largest_fold = refl }
 
 -- ---- what the Rust collects: the doubled P fits, or it panics
 abbrev pub Fits : Bool → Hertz → Type 0

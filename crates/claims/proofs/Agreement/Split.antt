@@ -9,7 +9,7 @@ use Rattle.types.specs.declared.ChipState.{ChipState}
 use Rattle.rules.specs.Document01.Fields
 use Rattle.claims.specs.Rust.Run.{ends, Run, continue, ◌>>=◌, ◌>>◌, return, assert, modify, poll}
 use Rattle.claims.specs.Rust.CoreClocks.{CoreClocks}
-use Rattle.claims.specs.Rust.Rcc.{DefaultX2, setters, mco1_setup, mco2_setup, sys_ck_setup, plls_setup, sys_ck_of, match_per_ck, buses_calculate, mcos_calculate, start_clocks, start_plls, switch_clocks, clocks_of_is, is_div2, freeze, frozen}
+use Rattle.claims.specs.Rust.Rcc.{DefaultX2, setters, mco1_setup, mco2_setup, sys_ck_setup, plls_setup, sys_ck_of, match_per_ck, buses_calculate, mcos_calculate, start_clocks, start_plls, switch_clocks, core_clocks_of, is_div2, freeze, frozen}
 use Rattle.claims.proofs.Agreement.Keeps.{Keeps, laws, buses, mcos, clocks, plls, switches}
 use Rattle.claims.proofs.Agreement.Agree.{continue_twice, continue_same}
 use Rattle.claims.proofs.Agreement.Plls.{Ready, after_sys, after_mco2, after_mco1, after_setters, ready}
@@ -24,7 +24,7 @@ after_asserts chip r sys_ck = do
   start_clocks chip.scale r.s.config buses mcos
   start_plls chip r.s.config r.plls
   switch_clocks r.s.config r.s.sys_use_pll1_p buses (match_per_ck r.s.config.per_ck r.s.config.hse).ckpersel DefaultX2
-  return (clocks_of_is sys_ck r.s.config r.plls buses mcos DefaultX2)
+  return (core_clocks_of sys_ck r.s.config r.plls buses mcos DefaultX2)
 
 -- `freeze` from the PLLs on
 abbrev pub rest : ChipState → Ready → Run CoreClocks

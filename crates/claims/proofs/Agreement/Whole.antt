@@ -34,7 +34,7 @@ use Rattle.rules.specs.Document01.Entries.{setup_entries, clock_entries, hse_ent
 use Rattle.claims.specs.Rust.Run.{Outcome, panics, ends, Run, continue, assert, unwrap, is_some}
 use Rattle.claims.specs.Rust.Rcc as F
 use Rattle.claims.specs.Rust.CoreClocks.{CoreClocks}
-use Rattle.claims.specs.Rust.Rcc.{DefaultX2, sys_ck_of, match_per_ck, swbits, buses_calculate, mcos_calculate, start_clocks, start_plls, switch_clocks, clocks_of_is, is_div2, frozen}
+use Rattle.claims.specs.Rust.Rcc.{DefaultX2, sys_ck_of, match_per_ck, swbits, buses_calculate, mcos_calculate, start_clocks, start_plls, switch_clocks, core_clocks_of, is_div2, frozen}
 use Rattle.claims.specs.Demands.Report.{reported}
 use Rattle.claims.specs.Demands.Agreement.{Cause, Departure, AllowsEachP, Agreement}
 use Rattle.claims.specs.Demands.Legal.{LegalPlan}
@@ -102,8 +102,8 @@ module _ (q : Request) (c : ChipState) (asked1 : PllRequest) (l : List PllPlan) 
       rw (same.hclk, same.pclk1.pre, same.pclk2.pre, same.pclk3.pre, sw_is (needs_pll1 q) q.hse, per_sel q.peripheral q.hse)
       (ap (λ (x : List Entry). ends x tt) (simp append_assoc))
 
-  clocks_same : clocks_of_is (system_from q l) (config_after q asked1) (clocks_of l) rb (mcos_rust m) DefaultX2 ≡ reported plan
-  unfolding clocks_of_is plan_with
+  clocks_same : core_clocks_of (system_from q l) (config_after q asked1) (clocks_of l) rb (mcos_rust m) DefaultX2 ≡ reported plan
+  unfolding core_clocks_of plan_with
   clocks_same =
       rw (same.hclk, same.pclk1.pre, same.pclk2.pre, same.pclk3.pre, same.pclk1.clock, same.pclk2.clock, same.pclk3.clock, same.pclk1.timer, same.pclk2.timer, per_clock_is q.peripheral q.hse)
 
@@ -113,7 +113,7 @@ module _ (q : Request) (c : ChipState) (asked1 : PllRequest) (l : List PllPlan) 
 
   list_is : (((setups ++ (Set Fields.LSION 1 ∷ [])) ++ (Wait Fields.LSIRDY 1 ∷ [])) ++ (clock_tail (flash_of c.scale rb.hclk.rcc_hclk) q m ++ hse_entries q.hse q.bypass)) ++ pll_tail q c.three l ++ bus_entries plan.buses plan.selectors ≡ plan_entries plan
   unfolding list_with clock_entries plan_with
-  list_is = rw same.hclk (simp append_assoc (grouped (setup_entries 0 (pll_from l 0)) (setup_entries 1 (pll_from l 1)) (setup_entries 2 (pll_from l 2)) _))
+  list_is = rw same.hclk (simp append_assoc)
 
 -- ---- from the PLLs on
 abbrev pub Final : Plan → List Entry → CoreClocks → Type 0
@@ -144,7 +144,7 @@ module _ (q : Request) (c : ChipState) (l : List PllPlan) (asked1 : PllRequest) 
   sys = system_from q l
 
   -- all that follows the MCOs is written and returned
-  ending : (b : Buses) (m : Mcos) (rb : F.Buses) → SameBuses es2 b es2 rb → Agree Final (ok (plan_with q c l b m)) (continue (start_clocks c.scale (config_after q asked1) rb (mcos_rust m) es2) (λ u es. continue (start_plls c (config_after q asked1) (clocks_of l) es) (λ u es. continue (switch_clocks (config_after q asked1) (needs_pll1 q) rb (match_per_ck q.peripheral q.hse).ckpersel DefaultX2 es) (λ u es. ends es (clocks_of_is sys (config_after q asked1) (clocks_of l) rb (mcos_rust m) DefaultX2)))))
+  ending : (b : Buses) (m : Mcos) (rb : F.Buses) → SameBuses es2 b es2 rb → Agree Final (ok (plan_with q c l b m)) (continue (start_clocks c.scale (config_after q asked1) rb (mcos_rust m) es2) (λ u es. continue (start_plls c (config_after q asked1) (clocks_of l) es) (λ u es. continue (switch_clocks (config_after q asked1) (needs_pll1 q) rb (match_per_ck q.peripheral q.hse).ckpersel DefaultX2 es) (λ u es. ends es (core_clocks_of sys (config_after q asked1) (clocks_of l) rb (mcos_rust m) DefaultX2)))))
   ending b m rb s =
       let h : rb.hclk.rcc_hclk ≡ b.ahb.clock = ap (λ (x : F.Hclk). x.rcc_hclk) s.hclk in
       let p : 1 ≤ rb.hclk.rcc_hclk = rw h s.some in

@@ -151,15 +151,15 @@ only_entry e g [] after h = cc
 only_entry e g (x ∷ before) after h = let t : [] ≡ before ++ (g ∷ after) = cc in absurd (no_entry g before after t)
 
 -- the divider of the PLL that a departure names
-abbrev divider_in : {q : Request} {c : ChipState} {n : Refusal} {es : List Entry} → Departure q c n es → ℕ
-divider_in {q} {c} d = divider_for (odd_at c d.pll) (asked_of q d.pll)
+abbrev divider_in : (q : Request) (c : ChipState) {n : Refusal} {es : List Entry} → Departure q c n es → ℕ
+divider_in q c d = divider_for (odd_at c d.pll) (asked_of q d.pll)
 
 -- the one value written is the divider less 1, and its field is that PLL's P
-value_of : {q : Request} {c : ChipState} {n : Refusal} {f v : ℕ} → (d : Departure q c n (Set f v ∷ [])) → v ≡ (divider_in d - 1) % 256
-value_of d = let e = only_entry _ _ d.at.before d.at.after d.at.written in cc
+value_of : (q : Request) (c : ChipState) {n : Refusal} {f v : ℕ} → (d : Departure q c n (Set f v ∷ [])) → v ≡ (divider_in q c d - 1) % 256
+value_of q c d = let e = only_entry _ _ d.at.before d.at.after d.at.written in cc
 
-field_of : {q : Request} {c : ChipState} {n : Refusal} {f v : ℕ} → (d : Departure q c n (Set f v ∷ [])) → f ≡ 15 * d.pll + 6
-field_of d = let e = only_entry _ _ d.at.before d.at.after d.at.written in cc
+field_of : (q : Request) (c : ChipState) {n : Refusal} {f v : ℕ} → (d : Departure q c n (Set f v ∷ [])) → f ≡ 15 * d.pll + 6
+field_of q c d = let e = only_entry _ _ d.at.before d.at.after d.at.written in cc
 
 -- freeze has written nothing
 pub nothing_written : (q : Request) (c : ChipState) (n : Refusal) (k : CoreClocks) → Agreement q c (refusing n) (ends [] k) → ⊥
@@ -169,35 +169,35 @@ nothing_written q c n k h = let d = h.departed n [] k refl refl in no_entry _ d.
 pub allowed_5 : (q : Request) (k : CoreClocks) → Agreement q (state true) (refusing PDividerOdd) (ends (Set 6 4 ∷ []) k) → ⊥
 allowed_5 q k h =
     let d = h.departed PDividerOdd _ k refl refl in
-    let e : allows_p true 4 ≡ false = rw (← value_of d, each_odd d.pll d.there) at d.at.forbidden in
+    let e : allows_p true 4 ≡ false = rw (← value_of _ _ d, each_odd d.pll d.there) at d.at.forbidden in
     never e
 
 pub allowed_1 : (q : Request) (k : CoreClocks) → Agreement q (state true) (refusing PDividerAbove128) (ends (Set 6 0 ∷ []) k) → ⊥
 allowed_1 q k h =
     let d = h.departed PDividerAbove128 _ k refl refl in
-    let e : allows_p true 0 ≡ false = rw (← value_of d, each_odd d.pll d.there) at d.at.forbidden in
+    let e : allows_p true 0 ≡ false = rw (← value_of _ _ d, each_odd d.pll d.there) at d.at.forbidden in
     never e
 
 -- another divider than the refusal's: 15 of an even one, 4; 14 of one below 128, 101
 pub even_15 : (q : Request) (c : ChipState) (k : CoreClocks) → Agreement q c (refusing PDividerOdd) (ends (Set 6 3 ∷ []) k) → ⊥
 even_15 q c k h =
     let d = h.departed PDividerOdd _ k refl refl in
-    let v = value_of d in
+    let v = value_of q c d in
     ⊎_elim (λ w. omega (arith, w.0)) (λ w. omega (arith, v, w.1, w.2)) d.at.why.which
 
 pub below_14 : (q : Request) (c : ChipState) (k : CoreClocks) → Agreement q c (refusing PDividerAbove128) (ends (Set 6 100 ∷ []) k) → ⊥
 below_14 q c k h =
     let d = h.departed PDividerAbove128 _ k refl refl in
-    let v = value_of d in
+    let v = value_of q c d in
     ⊎_elim (λ w. omega (arith, v, w.1, w.2)) (λ w. omega (arith, w.0)) d.at.why.which
 
 -- a field that is no PLL's P, Q of PLL1; and P of a third PLL where there are two
 pub not_of_p : (q : Request) (c : ChipState) (n : Refusal) (v : ℕ) (k : CoreClocks) → Agreement q c (refusing n) (ends (Set 8 v ∷ []) k) → ⊥
-not_of_p q c n v k h = let d = h.departed n _ k refl refl in let f = field_of d in omega (arith, f)
+not_of_p q c n v k h = let d = h.departed n _ k refl refl in let f = field_of q c d in omega (arith, f)
 
 pub third_of_two : (q : Request) (odd : Bool) (n : Refusal) (v : ℕ) (k : CoreClocks) → Agreement q (state odd) (refusing n) (ends (Set 36 v ∷ []) k) → ⊥
 third_of_two q odd n v k h =
     let d = h.departed n _ k refl refl in
-    let f = field_of d in
+    let f = field_of q (state odd) d in
     let l : d.pll < 2 = d.there in
     omega (arith, f, l)

@@ -88,14 +88,14 @@ outputs_of pllcfg p-odd-allowed = do
   return (p ++ (q ++ r))
 
 -- .fold((0, 0), ..)
-abbrev pub fold_min_is : ℕ → List ℕ → ℕ
-fold_min_is least [] = least
-fold_min_is least (ck ∷ cks) = fold_min_is (cond (eqb least 0) ck (min least ck)) cks
+abbrev pub fold_min : ℕ → List ℕ → ℕ
+fold_min least [] = least
+fold_min least (ck ∷ cks) = fold_min (cond (eqb least 0) ck (min least ck)) cks
 
 -- the other part of the fold
-abbrev pub fold_max_is : ℕ → List ℕ → ℕ
-fold_max_is most [] = most
-fold_max_is most (ck ∷ cks) = fold_max_is (max most ck) cks
+abbrev pub fold_max : ℕ → List ℕ → ℕ
+fold_max most [] = most
+fold_max most (ck ∷ cks) = fold_max (max most ck) cks
 
 -- vco_ranges.find(|range| range.end() > &max_output).expect(..)
 abbrev pub find_range : (max-output : ℕ) → Run VcoRange
@@ -185,7 +185,7 @@ range_setup pllsrc pllcfg min-output max-output = do
 unfoldable pub vco_output_divider_setup : (pllsrc : ℕ) → PllConfig → (p-odd-allowed : Bool) → Run PllSetup
 vco_output_divider_setup pllsrc pllcfg p-odd-allowed = do
   outputs ← outputs_of pllcfg p-odd-allowed
-  range_setup pllsrc pllcfg (fold_min_is 0 outputs) (fold_max_is 0 outputs)
+  range_setup pllsrc pllcfg (fold_min 0 outputs) (fold_max 0 outputs)
 
 -- ---- vco_setup!, for PLL k from 0
 

@@ -514,8 +514,8 @@ switch_clocks c sys_use_pll1_p b ckpersel timpre = do
   poll (Wait2 Fields.RDY1 1 Fields.RDY2 1)
 
 -- clocks: CoreClocks { .. }
-unfoldable pub clocks_of_is : (sys_ck : ℕ) → Config → Plls → Buses → Mcos → TIMPRE → CoreClocks
-clocks_of_is sys_ck c l b m timpre = record {
+unfoldable pub core_clocks_of : (sys_ck : ℕ) → Config → Plls → Buses → Mcos → TIMPRE → CoreClocks
+core_clocks_of sys_ck c l b m timpre = record {
   hclk = b.hclk.rcc_hclk;
   pclk1 = b.pclk1.pclk;
   pclk2 = b.pclk2.pclk;
@@ -565,7 +565,7 @@ freeze chip config = do
   start_clocks chip.scale s.config buses mcos
   start_plls chip s.config plls
   switch_clocks s.config s.sys_use_pll1_p buses (match_per_ck s.config.per_ck s.config.hse).ckpersel DefaultX2
-  return (clocks_of_is sys_ck s.config plls buses mcos DefaultX2)
+  return (core_clocks_of sys_ck s.config plls buses mcos DefaultX2)
 
 -- the setters, then freeze, from no operation
 unfoldable pub frozen : Request → ChipState → Outcome CoreClocks

@@ -31,8 +31,8 @@ matches (t ∷ ts) [] = false
 matches (t ∷ ts) (q ∷ qs) = equal t q && matches ts qs
 
 -- the arms of the match, in the Rust's order: the first that matches decides
-unfoldable pub reason_by_is : (tuple : List Bool) → (bits : ℕ) → ResetReason
-reason_by_is tuple bits =
+unfoldable pub reason_by_tuple : (tuple : List Bool) → (bits : ℕ) → ResetReason
+reason_by_tuple tuple bits =
     cond (matches tuple (false ∷ false ∷ false ∷ false ∷ true ∷ true ∷ [])) PowerOnReset
     (cond (matches tuple (false ∷ false ∷ false ∷ false ∷ false ∷ true ∷ [])) PinReset
     (cond (matches tuple (false ∷ false ∷ false ∷ true ∷ false ∷ true ∷ [])) SystemReset
@@ -58,4 +58,4 @@ pub record Got : Type 0 where
 -- get_reset_reason: the feature is rm0492 for two PLLs, rm0481 for three
 unfoldable pub get_reset_reason : (rm0481 : Bool) → (rsr : ℕ) → Got
 get_reset_reason true rsr = record { returned = Unknown rsr; written = modify_rmvf rsr }
-get_reset_reason false rsr = record { returned = reason_by_is (scrutinee rsr) rsr; written = modify_rmvf rsr }
+get_reset_reason false rsr = record { returned = reason_by_tuple (scrutinee rsr) rsr; written = modify_rmvf rsr }

@@ -1,0 +1,16 @@
+-- `ask::all::end_of` meets its contract.
+use Prim.Native.Nat.{◌-◌}
+use lib.ListN.{length}
+use mathlib.Core.Path.{refl}
+use Rattle.ask.proofs.Taking.{Filling, at_blank, fills, at_end}
+use borrow.Author.Rules.{rules}
+use Rattle.ask.proofs.all.end_of.Goals as goal
+
+pub returns-then-words-i-le32 : goal.returns-then-words-i-le32
+returns-then-words-i-le32 c = at_blank _ _ c.loop-i.i c.loop-i.invariant c.loop-i-test.true c.if-words-i-le32.true
+
+pub loop-i-preserved : goal.loop-i-preserved
+loop-i-preserved c = fills _ _ c.loop-i.i c.loop-i.invariant c.loop-i-test.true c.if-words-i-le32.false
+
+pub returns : goal.returns
+returns c = at_end _ _ c.loop-i.i c.loop-i.invariant c.loop-i-test.false

@@ -1,0 +1,15 @@
+-- `ask::hex::store_hex` meets its contract.
+use Prim.Native.Nat.{◌-◌}
+use native.Mathlib.Omega.{arith}
+use Rattle.ask.proofs.Pairs.{Stored, starts, same_length as same-length-of, both_digits, stores_on, stored}
+use borrow.Author.Rules.{rules}
+use Rattle.ask.proofs.hex.store_hex.Goals as goal
+
+pub byte_of-b-requires : goal.byte_of-b-requires
+byte_of-b-requires c = both_digits _ _ _ _ _ c.loop-i.invariant c.loop-i-test.true
+
+pub loop-i-preserved : goal.loop-i-preserved
+loop-i-preserved c = stores_on _ _ _ _ _ c.loop-i.invariant c.loop-i-test.true c.byte_of-b.ensures c.put.ensures
+
+pub returns : goal.returns
+returns c = stored _ _ _ _ _ c.loop-i.invariant c.loop-i-test.false

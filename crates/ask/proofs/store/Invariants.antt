@@ -1,0 +1,12 @@
+-- The loop of `ask::store`.
+use Prim.Native.Nat.{◌-◌}
+use native.Mathlib.Omega.{arith}
+use Rattle.text.proofs.Stores.{Storing, begins, same_length as same-length-of, goes_on, ends}
+use borrow.Author.Rules.{rules}
+use Rattle.ask.proofs.store.Given as goal
+
+abbrev pub invariant-loop-i : goal.invariant-loop-i
+invariant-loop-i l = Storing l.bytes l.initial.sheet l.place l.sheet l.i
+
+abbrev pub decreases-loop-i : goal.decreases-loop-i
+decreases-loop-i l = l.n - l.i

@@ -1,0 +1,13 @@
+-- `ask::value::mco2_said` meets its contract.
+use Rattle.ask.specs.Words.{value_said}
+use Rattle.text.proofs.Parts.{before_part, before_long}
+use Rattle.ask.specs.Table.{mco2_names}
+use borrow.Author.Rules.{rules}
+use Rattle.ask.proofs.value.mco2_said.Goals as goal
+
+pub slice_bounds-name_number-end-2 : goal.slice_bounds-name_number-end-2
+slice_bounds-name_number-end-2 c = ?
+
+pub returns : goal.returns
+unfolding value_said mco2_names
+returns c = rw (c.name_number-code.ensures, before_part 58 c.args.value.now _ c.find-colon.ensures) at c.mco_said.ensures

@@ -1,0 +1,15 @@
+-- `text::find` meets its contract.
+use Prim.Native.Nat.{◌-◌}
+use lib.ListN.{length}
+use Rattle.text.proofs.Parts.{Searched, begins, found, goes_on, ends}
+use borrow.Author.Rules.{rules}
+use Rattle.text.proofs.find.Goals as goal
+
+pub returns-then-s-i : goal.returns-then-s-i
+returns-then-s-i c = let l = c.loop-i in found _ _ l.i l.invariant c.loop-i-test.true c.if-s-i.true
+
+pub loop-i-preserved : goal.loop-i-preserved
+loop-i-preserved c = let l = c.loop-i in goes_on _ _ l.i l.invariant c.loop-i-test.true c.if-s-i.false
+
+pub returns : goal.returns
+returns c = ends _ _ c.loop-i.i c.loop-i.invariant c.loop-i-test.false

@@ -1,0 +1,18 @@
+-- `text::hertz` meets its contract.
+use mathlib.Core.Path.{sym, ◌∙◌}
+use native.Mathlib.Omega.{arith}
+use Prim.Native.Nat.{◌-◌}
+use lib.ListN.{length, get_or}
+use lib.Seq.{length-take-le}
+use Rattle.text.proofs.Digits.{unit_at_most, no_unit, in_unit, nothing}
+use borrow.Author.Rules.{rules}
+use Rattle.text.proofs.hertz.Goals as goal
+
+pub returns-then-n-eq0 : goal.returns-then-n-eq0
+returns-then-n-eq0 c = nothing c.args.s.now c.if-n-eq0.true c.pointed.ensures
+
+pub returns-then-unit-eq0 : goal.returns-then-unit-eq0
+returns-then-unit-eq0 c = no_unit c.args.s.now (sym c.unit_of-unit.ensures ∙ c.if-unit-eq0.true) c.pointed-then-unit-eq0.ensures
+
+pub returns : goal.returns
+returns c = in_unit c.args.s.now (λ e. c.if-unit-eq0.false (c.unit_of-unit.ensures ∙ e)) (rw c.unit_of-unit.ensures at c.pointed-2.ensures)
