@@ -9,8 +9,7 @@ ghost use Rattle.clock_api.specs.Calls.{report_by};
 use crate::report_by;
 
 // A plan's clocks in 55 words, and the whole list applied to a bank of 82 words.
-#[unsafe(no_mangle)]
-pub extern "C" fn clock_plan_bank(
+pub fn clock_plan_bank(
     request: &[u8],
     chip: &[u8],
     report: &mut [u32],

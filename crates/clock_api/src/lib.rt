@@ -14,14 +14,13 @@ use types::{Answer, Planned};
 // Words of a list, with room for 69 entries.
 const LIST: usize = 1 + 9 * 69;
 
-mod both;
-mod one_pll;
-mod registers;
-mod walks;
+pub mod both;
+pub mod one_pll;
+pub mod registers;
+pub mod walks;
 
 // A plan's clocks, in 55 words.
-#[unsafe(no_mangle)]
-pub extern "C" fn clock_plan(request: &[u8], chip: &[u8], report: &mut [u32]) -> u32
+pub fn clock_plan(request: &[u8], chip: &[u8], report: &mut [u32]) -> u32
     ensures code { result ≡ code_of (asked_of request.now chip.now (eqb (length report.old) 55)).answer }
     ensures report { report.new ≡ report_by (asked_of request.now chip.now (eqb (length report.old) 55)).answer (asked_of request.now chip.now (eqb (length report.old) 55)) report.old }
 {
@@ -49,8 +48,7 @@ fn report_by(x: Planned, report: &mut [u32]) -> u32
 }
 
 // A plan's register entries: the count, and nine words for each.
-#[unsafe(no_mangle)]
-pub extern "C" fn clock_entries(request: &[u8], chip: &[u8], list: &mut [u32]) -> u32
+pub fn clock_entries(request: &[u8], chip: &[u8], list: &mut [u32]) -> u32
     ensures code { result ≡ code_of (asked_of request.now chip.now (eqb (length list.old) list_length)).answer }
     ensures list { list.new ≡ list_by (asked_of request.now chip.now (eqb (length list.old) list_length)).answer (asked_of request.now chip.now (eqb (length list.old) list_length)) list.old }
 {
@@ -73,8 +71,7 @@ fn list_by(x: Planned, list: &mut [u32]) -> u32
 }
 
 // The whole list applied to a bank of 82 words.
-#[unsafe(no_mangle)]
-pub extern "C" fn clock_bank(request: &[u8], chip: &[u8], bank: &mut [u32]) -> u32
+pub fn clock_bank(request: &[u8], chip: &[u8], bank: &mut [u32]) -> u32
     ensures code { result ≡ code_of (bank_asked request.now chip.now true (length bank.old)).answer }
     ensures bank { bank.new ≡ apply_all (entries_of (bank_asked request.now chip.now true (length bank.old))) bank.old }
 {

@@ -1,11 +1,12 @@
 // The C functions of the leaves: docs/CODES.md, The C functions, and include/clock_api.h.
 #![tactic(auto)]
+
 ghost use Rattle.std.specs.Prelude.{◌≡◌, [], ◌∷◌, length};
 ghost use Rattle.rules.specs.Words.{stored_from};
 
-mod prescalers;
-mod reset;
-mod steps;
+pub mod prescalers;
+pub mod reset;
+pub mod steps;
 
 // Three words.
 fn three(a: u32, b: u32, c: u32, out: &mut [u32]) -> u32

@@ -42,8 +42,7 @@ fn bus(x: BusAnswer, out: &mut [u32]) -> u32
 }
 
 // The AHB divisor and clock for a system clock, in two words.
-#[unsafe(no_mangle)]
-pub extern "C" fn clock_ahb(system: u32, set: u32, hertz: u32, out: &mut [u32]) -> u32
+pub fn clock_ahb(system: u32, set: u32, hertz: u32, out: &mut [u32]) -> u32
     ensures code { result ≡ leaf_code (leaf_fits set 2 (length out.old)) (ahb_of system (hertz_in set hertz)) }
     ensures out { out.new ≡ bus_room (leaf_fits set 2 (length out.old)) (ahb_of system (hertz_in set hertz)) out.old }
 {
@@ -54,8 +53,7 @@ pub extern "C" fn clock_ahb(system: u32, set: u32, hertz: u32, out: &mut [u32]) 
 }
 
 // An APB divisor and clock for an AHB clock, in two words.
-#[unsafe(no_mangle)]
-pub extern "C" fn clock_apb(hclk: u32, set: u32, hertz: u32, out: &mut [u32]) -> u32
+pub fn clock_apb(hclk: u32, set: u32, hertz: u32, out: &mut [u32]) -> u32
     ensures code { result ≡ leaf_code (leaf_fits set 2 (length out.old)) (apb_of hclk (hertz_in set hertz)) }
     ensures out { out.new ≡ bus_room (leaf_fits set 2 (length out.old)) (apb_of hclk (hertz_in set hertz)) out.old }
 {
@@ -66,8 +64,7 @@ pub extern "C" fn clock_apb(hclk: u32, set: u32, hertz: u32, out: &mut [u32]) ->
 }
 
 // The timer clock for an AHB clock and an APB divisor.
-#[unsafe(no_mangle)]
-pub extern "C" fn clock_timer(hclk: u32, ppre: u32) -> u32
+pub fn clock_timer(hclk: u32, ppre: u32) -> u32
     ensures { result ≡ timer_of hclk ppre }
 {
     prescaler::timer(hclk, ppre)
@@ -88,8 +85,7 @@ fn output(x: McoAnswer, out: &mut [u32]) -> u32
 }
 
 // A clock output's prescaler and clock for the clock of its source, in three words: the prescaler, 0 or 1, the hertz.
-#[unsafe(no_mangle)]
-pub extern "C" fn clock_mco(clock: u32, set: u32, hertz: u32, out: &mut [u32]) -> u32
+pub fn clock_mco(clock: u32, set: u32, hertz: u32, out: &mut [u32]) -> u32
     ensures code { result ≡ leaf_code (leaf_fits set 3 (length out.old)) (mco_of clock (hertz_in set hertz)) }
     ensures out { out.new ≡ mco_room (leaf_fits set 3 (length out.old)) (mco_of clock (hertz_in set hertz)) out.old }
 {

@@ -23,8 +23,7 @@ fn reason_code(r: ResetReason) -> u32
 }
 
 // The reset reason, the word as read and the word to write back, in three words.
-#[unsafe(no_mangle)]
-pub extern "C" fn clock_reset_reason(plls: u32, word: u32, out: &mut [u32]) -> u32
+pub fn clock_reset_reason(plls: u32, word: u32, out: &mut [u32]) -> u32
     ensures code { result ≡ leaf_code (eqb (length out.old) 3) (reset_of plls word) }
     ensures out { out.new ≡ reason_room (eqb (length out.old) 3) (reset_of plls word) word out.old }
 {

@@ -8,8 +8,7 @@ ghost use Rattle.clock_leaves.specs.Leaves.{fracn_code, vco_code, waits_for, wai
 use types::{Fracn, Scale};
 
 // FRACN 0 to 8191 for an output and its divider; 8192 where it is out of range.
-#[unsafe(no_mangle)]
-pub extern "C" fn clock_fracn(reference: u32, n: u32, output: u32, divider: u32) -> u32
+pub fn clock_fracn(reference: u32, n: u32, output: u32, divider: u32) -> u32
     ensures { result ≡ fracn_code (fracn_for reference n divider output) }
 {
     match fracn::fracn_for(reference, n, divider, output) {
@@ -19,8 +18,7 @@ pub extern "C" fn clock_fracn(reference: u32, n: u32, output: u32, divider: u32)
 }
 
 // The VCO in hertz of a FRACN of 16 bits; 0 of a wider one.
-#[unsafe(no_mangle)]
-pub extern "C" fn clock_vco(reference: u32, n: u32, fracn: u32) -> u32
+pub fn clock_vco(reference: u32, n: u32, fracn: u32) -> u32
     ensures { result ≡ vco_code reference n fracn }
 {
     if fracn < 65536 {
@@ -37,8 +35,7 @@ fn wait_states(ahb: u32, scale: Scale) -> u32
 }
 
 // Latency + 8 × delay for an AHB clock and a voltage scale; 255 for no such scale, which is refusal 1, or a clock of 0 Hz, which is 19.
-#[unsafe(no_mangle)]
-pub extern "C" fn clock_flash(ahb: u32, scale: u32) -> u32
+pub fn clock_flash(ahb: u32, scale: u32) -> u32
     ensures { result ≡ waits_code (waits_for ahb scale) }
 {
     if ahb == 0 {

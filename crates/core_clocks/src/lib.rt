@@ -1,5 +1,6 @@
 // The clocks behind the PLLs: system, peripheral, buses and clock outputs. core_clocks.rs, rcc.rs (freeze) and mco.rs (mco1_setup, mco2_setup).
 #![tactic(auto)]
+
 ghost use Rattle.std.specs.Prelude.{◌≡◌, cond};
 ghost use Rattle.rules.specs.Answers.{buses_result, mcos_result};
 ghost use Rattle.rules.specs.Document01.Hertz.{hertz_or};

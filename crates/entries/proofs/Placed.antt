@@ -1,7 +1,6 @@
 -- An entry of two lists joined is one of the first, or one of the second at the place less the first's length.
 use mathlib.Core.Path.{◌≡◌, refl, ◌∙◌, sym}
 use mathlib.Core.Bool.{Bool, true, false}
-use mathlib.Core.Logic.{◌≢◌}
 use mathlib.Core.List.{List, [], ◌∷◌, ◌++◌}
 use Prim.Native.Nat.{ℕ, zero, suc, ◌-◌, ◌≤◌, ◌<◌}
 use native.Mathlib.Omega.{arith}
@@ -21,19 +20,6 @@ use Rattle.entries.specs.Counts.{hse_count, source_count, output_start_count, st
 use Rattle.entries.specs.declared.EntryAt.{EntryAt}
 use Rattle.entries.specs.declared.EntryAt.TheVariants.{Is, Past}
 use Rattle.entries.specs.Place.{entry_at, entry_or}
-
--- a place that is at least n, and not n
-pub above : (n k : ℕ) → n ≤ k → k ≢ n → suc n ≤ k
-above n k h d = omega (arith, d)
-
--- no arm of a match on the place: none of the places below n
-abbrev pub Missed : (n k : ℕ) → Type 0
-Missed zero k = Unit {0}
-Missed (suc n) k = Missed n k × (k ≢ n)
-
-pub missed : (n k : ℕ) → Missed n k → n ≤ k
-missed zero k m = omega arith
-missed (suc n) k m = above n k (missed n k m.0) m.1
 
 -- past the end there is none
 pub past : (s : List Entry) (k : ℕ) → length s ≤ k → Read 0 ≡ entry_or s k

@@ -1,5 +1,6 @@
 // The manual's clock tree as code: from the words of a bank and the request's HSE hertz, the exact fraction of one clock. Document 01, The clock tree.
 #![tactic(auto)]
+
 ghost use Rattle.std.specs.Prelude.{◌≡◌};
 ghost use Rattle.rules.specs.Manual.Tree.{fed_by};
 ghost use Rattle.exact.specs.Exact.{path_by, reading_of};

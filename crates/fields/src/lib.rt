@@ -1,6 +1,7 @@
 // Which word of the bank is which field, what a field takes where the plan's own number is not stored as it is, reading and storing one, and
 // a bank at reset values.
 #![tactic(auto)]
+
 ghost use Rattle.std.specs.Prelude.{◌≡◌, set, ◌-◌};
 ghost use Rattle.rules.specs.Document01.Entries.{prften_of, bit};
 ghost use Rattle.rules.specs.Document01.Bank.{reset_bank};

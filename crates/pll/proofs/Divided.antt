@@ -13,7 +13,7 @@ use Rattle.types.specs.declared.Pll.{Pll}
 use Rattle.types.specs.declared.FoundM.{FoundM}
 use Rattle.types.specs.declared.FoundM.TheVariants.{Nothing, M}
 use Rattle.types.specs.declared.Refusal.TheVariants.{TargetOutside, NoM}
-use Rattle.rules.specs.Document01.Result.{Result, ◌>>=◌, ◌>>◌, refused}
+use Rattle.rules.specs.Document01.Result.{Result, ◌>>=◌, refused}
 use Rattle.rules.specs.Document01.Hertz.{is_set, not_zero, hertz_or, or_else}
 use Rattle.rules.specs.Document01.ChoiceOfM.{chosen_m, Admissible}
 use Rattle.rules.specs.Document01.Target.{target_of}

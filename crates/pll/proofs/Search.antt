@@ -5,7 +5,9 @@ use mathlib.Core.Logic.{◌⊎◌, inl, inr}
 use Prim.Native.Nat.{ℕ, zero, suc, ◌+◌, ◌-◌, ◌*◌, ◌/◌, ◌≤◌, ◌<◌, min}
 use native.Mathlib.Omega.{arith}
 use native.Mathlib.Nat.{mul_comm, mul-le-mul_right, div-mul-le_self, div-lt_iff_lt-mul, le-div_iff_mul-le}
-use lib.Dec.{ltb, leb}
+use lib.Dec.{leb}
+use lib.IntN.{ℤ, pos}
+use lib.Signed.{lt_z}
 use borrow.Author.Tests.{lt-leb, leb-true, leb-false, ltb-false}
 use Rattle.types.specs.declared.FoundM.{FoundM}
 use Rattle.types.specs.declared.FoundM.TheVariants.{Nothing, M}
@@ -78,24 +80,18 @@ module _ (source target low high : ℕ) where
   abbrev short : ℕ → ℕ
   short = shortfall_of source target
 
-  abbrev pub Held : FoundM → (best least : ℕ) → Type 0
-  Held f best least = (f ≡ M best) × (least ≡ short best)
+  abbrev pub Held : FoundM → (best : ℕ) (least : ℤ) → Type 0
+  Held f best least = (f ≡ M best) × (least ≡ pos (short best))
 
-  abbrev pub Kept : FoundM → (best least : ℕ) → Type 0
-  Kept f best least = ((f ≡ Nothing) × (least ≡ 2_147_483_647)) ⊎ Held f best least
+  abbrev pub Kept : FoundM → (best : ℕ) (least : ℤ) → Type 0
+  Kept f best least = ((f ≡ Nothing) × (least ≡ pos 2_147_483_647)) ⊎ Held f best least
 
-  pub moved : {f : FoundM} {k l b n : ℕ} → b ≡ k → n ≡ l → Held f k l → Held f b n
-  moved e g h = (h.0 ∙ ap M (sym e), g ∙ h.1 ∙ ap short (sym e))
+  pub moved : {f : FoundM} {k b : ℕ} {l n : ℤ} → b ≡ k → n ≡ l → Held f k l → Held f b n
+  moved e g h = (h.0 ∙ ap M (sym e), g ∙ h.1 ∙ ap (λ (x : ℕ). pos (short x)) (sym e))
 
   -- below the first M that is in range nothing is held
   pub none_held : (m : ℕ) → 1 ≤ m → ((k : ℕ) → k < m → in_range source low high k ≡ false) → best_to source target low high (m - 1) ≡ Nothing
   none_held m o out = best_same source target low high 0 (m - 1) (omega arith) (λ k l h. out k (omega arith)) ∙ best_none source target low high
-
-  -- what is kept fits
-  pub kept_fits : target < 2_147_483_648 → (f : FoundM) (k l : ℕ) → Kept f k l → l < 2_147_483_648
-  unfolding shortfall_of
-  kept_fits t f k l (inl h) = let e = h.1 in omega arith
-  kept_fits t f k l (inr h) = let e = h.1 in omega arith
 
   -- a shortfall is below the reference
   pub short_below : (m : ℕ) → Divides source m → short m < 2_147_483_647
@@ -108,11 +104,11 @@ module _ (source target low high : ℕ) where
       omega arith
 
   -- an M that falls short by less than what is kept is held in its place, and no other is
-  module _ (k m l : ℕ) (d : Divides source m) (r : in_range source low high m ≡ true) where
-    pub less_held : Kept (best_to source target low high (m - 1)) k l → ltb (short m) l ≡ true → Held (best_to source target low high (m + 1 - 1)) m (short m)
-    less_held (inl h) e = (rw (best_more source target low high m d.above, h.0) (better_first source target low high m r), refl)
-    less_held (inr h) e = (rw (best_more source target low high m d.above, h.0) (better_less source target low high k m r (rw h.1 at e)), refl)
+  module _ (k m : ℕ) (l r : ℤ) (d : Divides source m) (in_it : in_range source low high m ≡ true) (is : r ≡ pos (short m)) where
+    pub less_held : Kept (best_to source target low high (m - 1)) k l → lt_z r l ≡ true → Held (best_to source target low high (m + 1 - 1)) m r
+    less_held (inl h) e = (rw (best_more source target low high m d.above, h.0) (better_first source target low high m in_it), is)
+    less_held (inr h) e = (rw (best_more source target low high m d.above, h.0) (better_less source target low high k m in_it (rw (is, h.1) at e)), is)
 
-    pub still_held : Kept (best_to source target low high (m - 1)) k l → ltb (short m) l ≡ false → Held (best_to source target low high (m + 1 - 1)) k l
-    still_held (inl h) e = absurd (let b = short_below m d in let n = ltb-false (short m) l e in let f = h.1 in omega arith)
-    still_held (inr h) e = (rw (best_more source target low high m d.above, h.0) (better_not source target low high k m r (rw h.1 at e)), h.1)
+    pub still_held : Kept (best_to source target low high (m - 1)) k l → lt_z r l ≡ false → Held (best_to source target low high (m + 1 - 1)) k l
+    still_held (inl h) e = absurd (let b = short_below m d in let n = ltb-false (short m) 2_147_483_647 (rw (is, h.1) at e) in omega arith)
+    still_held (inr h) e = (rw (best_more source target low high m d.above, h.0) (better_not source target low high k m in_it (rw (is, h.1) at e)), h.1)

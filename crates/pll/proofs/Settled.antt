@@ -23,7 +23,6 @@ use Rattle.rules.specs.Document01.Result.{Result, refused, ok, ◌>>=◌, ◌>>�
 use Rattle.rules.specs.Document01.OnePll.{first_of, taken, fraction_of, vco_by, output_of, divider_p, allowed_p, settings_of, settled, running}
 use Rattle.pll.specs.declared.settle.Chosen.{Chosen}
 use Rattle.pll.specs.declared.settle.Multiplied.{Multiplied}
-use Rattle.pll.specs.declared.settle.Multiplied.TheVariants as Multiplied
 use Rattle.pll.specs.Settle.{multiplied, settled_for, placed, placed_settings, divider_in}
 
 -- ---- P's divider

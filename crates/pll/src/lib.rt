@@ -1,5 +1,6 @@
 // One PLL, from its request to its settings or a refusal: pll.rs.
 #![tactic(auto)]
+
 ghost use Rattle.std.specs.Prelude.{◌≡◌, true, ◌≤◌};
 ghost use Rattle.rules.specs.Document01.OnePll.{none_zero, pll_of};
 ghost use Rattle.rules.specs.Answers.{pll_result};

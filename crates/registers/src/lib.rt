@@ -1,5 +1,6 @@
 // What do the register entries of an answer store in the bank? Document 01, Register entries.
 #![tactic(auto)]
+
 ghost use Rattle.std.specs.Prelude.{◌≡◌};
 ghost use Rattle.rules.specs.Document01.Entries.{entries_of, plan_entries};
 ghost use Rattle.rules.specs.Document01.Bank.{apply_all};

@@ -2,7 +2,7 @@
 use mathlib.Core.Path.{◌≡◌, refl, sym, ap, ◌∙◌}
 use mathlib.Core.Bool.{Bool, true, false}
 use mathlib.Core.List.{List, [], ◌∷◌, ◌++◌, append_assoc, append-nil}
-use Prim.Native.Nat.{ℕ, suc, ◌+◌}
+use Prim.Native.Nat.{ℕ, suc, ◌+◌, ◌≤◌}
 use native.Mathlib.Omega.{arith}
 use lib.Dec.{eqb}
 use lib.ListN.{length, set, drop, drop_of_length-le, length-append}
@@ -15,7 +15,7 @@ use Rattle.types.specs.declared.Strategy.TheVariants.{Integer, Fractional}
 use Rattle.types.specs.declared.PllRequest.{PllRequest}
 use Rattle.types.specs.declared.Request.{Request}
 use Rattle.rules.specs.Document01.Bytes.{no_part, request_bytes, size_of}
-use Rattle.rules.proofs.Document01.BytesWhole.{hertz_length, written_length}
+use Rattle.rules.proofs.Document01.BytesWhole.{hertz_length, written_length, at_least}
 use Rattle.laws.proofs.Tests.{never, and_left, and_right}
 use Rattle.request_bytes.specs.Writing.{is_written, room_after, Stored, three_bytes, clocks_bytes, outputs_bytes, plls_bytes}
 use Rattle.rules.specs.Document01.Bytes.{is_unset, is_integer, is_no_part}
@@ -91,6 +91,10 @@ module _ (three : Bool) (q : Request) where
   pub room_of : (room : ℕ) → is_written three q room ≡ true → room ≡ size_of three
   unfolding is_written
   room_of room t = eqb-true room (size_of three) (and_left (eqb room (size_of three)) _ t)
+
+  -- room for a request is room for the least of them
+  pub long_room : (room : ℕ) → is_written three q room ≡ true → 90 ≤ room
+  long_room room t = omega (arith, room_of room t, at_least three)
 
   module _ (l : List ℕ) where
     pub not_written : is_written three q (length l) ≡ false → (false ≡ is_written three q (length l)) × (l ≡ room_after three q l)

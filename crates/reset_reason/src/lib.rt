@@ -1,5 +1,6 @@
 // Why the chip was reset, and the word that clears the flags: reset_reason.rs, get_reset_reason.
 #![tactic(auto)]
+
 ghost use Rattle.std.specs.Prelude.{◌≡◌, false};
 ghost use Rattle.rules.specs.Document01.ResetReason.{reason_of, write_back_of, reset_of};
 ghost use Rattle.rules.specs.Answers.{reset_result};

@@ -1,5 +1,6 @@
 // A clock of a plan as the numbers of one line: docs/CODES.md, The page of a plan.
 #![tactic(auto)]
+
 ghost use Rattle.std.specs.Prelude.{◌≡◌, not, ◌&&◌, eqb};
 ghost use Rattle.rules.specs.Document01.Entries.{bit};
 ghost use Rattle.view.specs.View.{exact_parts, line_of};

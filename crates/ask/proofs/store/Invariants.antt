@@ -1,8 +1,6 @@
 -- The loop of `ask::store`.
 use Prim.Native.Nat.{◌-◌}
-use native.Mathlib.Omega.{arith}
-use Rattle.text.proofs.Stores.{Storing, begins, same_length as same-length-of, goes_on, ends}
-use borrow.Author.Rules.{rules}
+use Rattle.text.proofs.Stores.{Storing}
 use Rattle.ask.proofs.store.Given as goal
 
 abbrev pub invariant-loop-i : goal.invariant-loop-i

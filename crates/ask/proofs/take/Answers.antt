@@ -4,7 +4,6 @@ use native.Mathlib.Omega.{arith}
 use Rattle.text.proofs.Parts.{before_part, before_long, behind_part}
 use Rattle.ask.proofs.Keys.{sound_of}
 use Rattle.ask.proofs.Sheets.{sign_within, bytes_taken, said_taken}
-use borrow.Author.Rules.{rules}
 use Rattle.ask.proofs.take.Goals as goal
 
 pub slice_bounds-key_number-end : goal.slice_bounds-key_number-end

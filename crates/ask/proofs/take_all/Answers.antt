@@ -1,9 +1,6 @@
 -- `ask::take_all` meets its contract.
 use native.Mathlib.Omega.{arith}
-use Prim.Native.Nat.{◌-◌}
-use lib.ListN.{length}
-use Rattle.ask.proofs.Taking.{Going, begins, ends, passes, some, inside, same_still, goes_on, stops}
-use borrow.Author.Rules.{rules}
+use Rattle.ask.proofs.Taking.{begins, ends, passes, some, inside, goes_on, stops}
 use Rattle.ask.proofs.take_all.Goals as goal
 
 pub loop-at-init : goal.loop-at-init
@@ -13,7 +10,7 @@ pub loop-at-preserved-then-words-at-le32 : goal.loop-at-preserved-then-words-at-
 loop-at-preserved-then-words-at-le32 c = passes _ _ _ _ c.loop-at.invariant c.loop-at-test.true c.if-words-at-le32.true
 
 pub slice_bounds-take-end : goal.slice_bounds-take-end
-slice_bounds-take-end c = ?
+slice_bounds-take-end c = inside _ _ _ _ c.loop-at.invariant c.loop-at-test.true c.if-words-at-le32.false c.end_of-to.ensures
 
 pub returns-then-wrong-ne0-clause-taken : goal.returns-then-wrong-ne0-clause-taken
 returns-then-wrong-ne0-clause-taken c = (stops _ _ _ _ c.loop-at.invariant c.loop-at-test.true c.if-words-at-le32.false c.end_of-to.ensures c.take-wrong.ensures.wrong c.take-wrong.ensures.sheet c.if-wrong-ne0.true).0

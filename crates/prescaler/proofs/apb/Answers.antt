@@ -1,9 +1,6 @@
 -- `prescaler::apb` meets its contract.
 use mathlib.Core.Path.{◌≡◌, ap, sym, ◌∙◌}
-use borrow.Author.Rules.{rules}
-use borrow.Author.Tests.{not-true, not-false}
 use Rattle.rules.specs.Document01.Buses.{ppre_of, ppre_for, apb_of}
-use Rattle.rules.proofs.Document01.Ratios.{ppre_pos}
 use Rattle.prescaler.proofs.apb.Goals as goal
 
 pub returns-then-not-not_zero : goal.returns-then-not-not_zero

@@ -1,7 +1,6 @@
 -- `prescaler::bus_ratio` meets its contract.
 use mathlib.Core.Path.{sym}
 use native.Mathlib.Nat.{div-zero}
-use borrow.Author.Rules.{rules}
 use Rattle.rules.specs.Document01.Hertz.{ratio_of}
 use Rattle.prescaler.proofs.bus_ratio.Goals as goal
 

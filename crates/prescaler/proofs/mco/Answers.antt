@@ -1,6 +1,5 @@
 -- `prescaler::mco` meets its contract.
 use native.Mathlib.Omega.{arith}
-use borrow.Author.Rules.{rules}
 use borrow.Author.Tests.{le-leb, lt-leb, ne_eqb}
 use Rattle.rules.specs.Document01.Mco.{mco_of}
 use Rattle.prescaler.proofs.mco.Goals as goal

@@ -1,7 +1,5 @@
 -- `prescaler::ratio` meets its contract.
-use native.Mathlib.Omega.{arith}
-use borrow.Author.Rules.{rules}
-use Rattle.prescaler.proofs.Up.{up, within}
+use Rattle.prescaler.proofs.Up.{up}
 use Rattle.prescaler.proofs.ratio.Goals as goal
 
 pub returns : goal.returns

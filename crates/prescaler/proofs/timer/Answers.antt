@@ -1,5 +1,6 @@
 -- `prescaler::timer` meets its contract.
-use borrow.Author.Tests.{ne_eqb}
+use native.Mathlib.Omega.{arith}
+use Rattle.std.proofs.lemmas.Grind.{common_steps}
 use Rattle.rules.specs.Document01.Buses.{timer_of}
 use Rattle.prescaler.proofs.timer.Goals as goal
 
@@ -17,4 +18,4 @@ returns-in-16 c = rw c.in-16.is
 
 pub returns-in_default : goal.returns-in_default
 unfolding timer_of
-returns-in_default c = let n = c.in-4.rest in simp (ne_eqb _ _ n.0.0.1, ne_eqb _ _ n.0.1, ne_eqb _ _ n.1)
+returns-in_default c = grind (arith, common_steps)

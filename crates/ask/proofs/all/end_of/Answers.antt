@@ -1,9 +1,5 @@
 -- `ask::all::end_of` meets its contract.
-use Prim.Native.Nat.{◌-◌}
-use lib.ListN.{length}
-use mathlib.Core.Path.{refl}
-use Rattle.ask.proofs.Taking.{Filling, at_blank, fills, at_end}
-use borrow.Author.Rules.{rules}
+use Rattle.ask.proofs.Taking.{at_blank, fills, at_end}
 use Rattle.ask.proofs.all.end_of.Goals as goal
 
 pub returns-then-words-i-le32 : goal.returns-then-words-i-le32

@@ -1,9 +1,7 @@
 -- The loop of `ask::all::end_of`.
 use Prim.Native.Nat.{◌-◌}
 use lib.ListN.{length}
-use mathlib.Core.Path.{refl}
-use Rattle.ask.proofs.Taking.{Filling, at_blank, fills, at_end}
-use borrow.Author.Rules.{rules}
+use Rattle.ask.proofs.Taking.{Filling}
 use Rattle.ask.proofs.all.end_of.Given as goal
 
 abbrev pub invariant-loop-i : goal.invariant-loop-i

@@ -1,8 +1,5 @@
 -- `ask::hex::is_hex` meets its contract.
-use Prim.Native.Nat.{◌-◌}
-use lib.ListN.{length}
-use Rattle.ask.proofs.Pairs.{Tested, begins, no_digit, goes_on, ends}
-use borrow.Author.Rules.{rules}
+use Rattle.ask.proofs.Pairs.{no_digit, ends}
 use Rattle.ask.proofs.hex.is_hex.Goals as goal
 
 pub returns-then-nibble_of-ge16 : goal.returns-then-nibble_of-ge16

@@ -1,8 +1,7 @@
 -- The loop of `ask::hex::is_hex`.
 use Prim.Native.Nat.{◌-◌}
 use lib.ListN.{length}
-use Rattle.ask.proofs.Pairs.{Tested, begins, no_digit, goes_on, ends}
-use borrow.Author.Rules.{rules}
+use Rattle.ask.proofs.Pairs.{Tested}
 use Rattle.ask.proofs.hex.is_hex.Given as goal
 
 abbrev pub invariant-loop-i : goal.invariant-loop-i

@@ -1,8 +1,5 @@
 -- `ask::hex::store_hex` meets its contract.
-use Prim.Native.Nat.{◌-◌}
-use native.Mathlib.Omega.{arith}
-use Rattle.ask.proofs.Pairs.{Stored, starts, same_length as same-length-of, both_digits, stores_on, stored}
-use borrow.Author.Rules.{rules}
+use Rattle.ask.proofs.Pairs.{both_digits, stores_on, stored}
 use Rattle.ask.proofs.hex.store_hex.Goals as goal
 
 pub byte_of-b-requires : goal.byte_of-b-requires

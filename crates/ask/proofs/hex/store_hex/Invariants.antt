@@ -1,8 +1,6 @@
 -- The loop of `ask::hex::store_hex`.
 use Prim.Native.Nat.{◌-◌}
-use native.Mathlib.Omega.{arith}
-use Rattle.ask.proofs.Pairs.{Stored, starts, same_length as same-length-of, both_digits, stores_on, stored}
-use borrow.Author.Rules.{rules}
+use Rattle.ask.proofs.Pairs.{Stored}
 use Rattle.ask.proofs.hex.store_hex.Given as goal
 
 abbrev pub invariant-loop-i : goal.invariant-loop-i

@@ -1,6 +1,5 @@
 -- `ask::table::count_number` meets its contract.
 use Rattle.ask.specs.Table.{count_names}
-use borrow.Author.Rules.{rules}
 use Rattle.ask.proofs.table.count_number.Goals as goal
 
 pub returns : goal.returns

@@ -1,6 +1,5 @@
 -- `ask::table::key_number` meets its contract.
 use Rattle.ask.specs.Table.{key_names}
-use borrow.Author.Rules.{rules}
 use Rattle.ask.proofs.table.key_number.Goals as goal
 
 pub returns : goal.returns

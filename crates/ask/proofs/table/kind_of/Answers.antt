@@ -3,7 +3,6 @@ use mathlib.Core.Path.{sym}
 use Rattle.ask.specs.Table.{kinds}
 use Rattle.text.proofs.Parts.{any_default}
 use lib.ListN.{get_or-eq_default}
-use borrow.Author.Rules.{rules}
 use Rattle.ask.proofs.table.kind_of.Goals as goal
 
 pub returns-then-k-lt33 : goal.returns-then-k-lt33

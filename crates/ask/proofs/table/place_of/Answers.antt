@@ -2,7 +2,6 @@
 use mathlib.Core.Path.{refl, sym}
 use Rattle.ask.specs.Table.{places}
 use lib.ListN.{get_or-eq_default}
-use borrow.Author.Rules.{rules}
 use Rattle.ask.proofs.table.place_of.Goals as goal
 
 pub returns-then-k-lt33 : goal.returns-then-k-lt33

@@ -1,6 +1,5 @@
 -- `ask::table::show_number` meets its contract.
 use Rattle.ask.specs.Table.{show_names}
-use borrow.Author.Rules.{rules}
 use Rattle.ask.proofs.table.show_number.Goals as goal
 
 pub returns : goal.returns

@@ -1,6 +1,5 @@
 -- `ask::table::strategy_number` meets its contract.
 use Rattle.ask.specs.Table.{strategy_names}
-use borrow.Author.Rules.{rules}
 use Rattle.ask.proofs.table.strategy_number.Goals as goal
 
 pub returns : goal.returns

@@ -5,7 +5,6 @@ use native.Mathlib.Omega.{arith}
 use Rattle.ask.specs.Words.{mco_said}
 use Rattle.text.proofs.Parts.{within}
 use borrow.Author.Rules.{part_to_end}
-use borrow.Author.Rules.{rules}
 use Rattle.ask.proofs.value.mco_said.Goals as goal
 
 pub returns-then-sources-number : goal.returns-then-sources-number

@@ -6,7 +6,6 @@ use Rattle.ask.specs.Words.{said_by}
 use Rattle.text.proofs.Parts.{within}
 use Rattle.ask.proofs.Keys.{kind_at_most}
 use borrow.Author.Rules.{part_to_end}
-use borrow.Author.Rules.{rules}
 use Rattle.ask.proofs.value.said_by.Goals as goal
 
 pub bare_said-requires : goal.bare_said-requires

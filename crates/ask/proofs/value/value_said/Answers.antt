@@ -1,7 +1,6 @@
 -- `ask::value::value_said` meets its contract.
 use borrow.Author.Tests.{ne_eqb}
 use Rattle.ask.specs.Words.{value_said}
-use borrow.Author.Rules.{rules}
 use Rattle.ask.proofs.value.value_said.Goals as goal
 
 pub returns-in-0 : goal.returns-in-0
@@ -26,4 +25,9 @@ returns-in-7 c = rw c.in-7.is (rw c.show_number.ensures at c.one_byte-in-7.ensur
 
 pub returns-in_default : goal.returns-in_default
 unfolding value_said
-returns-in_default c = let k = c.args.kind in ?
+returns-in_default c =
+    let k = c.args.kind in
+    let r = c.in_default.in_default-own.rest in
+    rw
+    (ne_eqb k 0 r.0.0.0.0.0.0.1, ne_eqb k 2 r.0.0.0.0.0.1, ne_eqb k 3 r.0.0.0.0.1, ne_eqb k 4 r.0.0.0.1, ne_eqb k 5 r.0.0.1, ne_eqb k 6 r.0.1, ne_eqb k 7 r.1)
+    c.wrong_by.ensures

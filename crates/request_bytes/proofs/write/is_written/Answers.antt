@@ -1,7 +1,6 @@
 -- `request_bytes::write::is_written` meets its contract.
 use mathlib.Core.Path.{sym, ◌∙◌}
 use borrow.Author.Tests.{eq-eqb, ne_eqb}
-use borrow.Author.Rules.{rules}
 use Rattle.rules.specs.Document01.Bytes.{size_of}
 use Rattle.request_bytes.specs.Writing.{is_written}
 use Rattle.request_bytes.proofs.write.is_written.Goals as goal

@@ -1,6 +1,5 @@
 -- `request_bytes::write::put_clocks` meets its contract.
 use native.Mathlib.Omega.{arith}
-use borrow.Author.Rules.{rules}
 use Rattle.request_bytes.specs.Writing.{clocks_bytes}
 use Rattle.request_bytes.proofs.Writing.{then, three_length}
 use Rattle.request_bytes.proofs.write.put_clocks.Goals as goal

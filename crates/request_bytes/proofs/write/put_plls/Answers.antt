@@ -1,6 +1,5 @@
 -- `request_bytes::write::put_plls` meets its contract.
 use native.Mathlib.Omega.{arith}
-use borrow.Author.Rules.{rules}
 use Rattle.rules.specs.Document01.Request.{pll_at}
 use Rattle.rules.proofs.Document01.BytesWhole.{pll_length}
 use Rattle.request_bytes.specs.Writing.{plls_bytes}

@@ -1,9 +1,0 @@
--- `core_clocks::sources::q_clock` meets its contract.
-use borrow.Author.Rules.{rules}
-use Rattle.core_clocks.proofs.sources.q_clock.Tie as tie
-
-returns-2 : tie.Need-returns-2
-returns-2 c = rw c.before.before.pll.given.1 c.clock-of.ensures
-
-pub q_clock_spec : {M : Type 1} → Rattle.core_clocks.proofs.sources.q_clock.Statement.statement M
-q_clock_spec = tie.close (tie.spec (λ c. search rules) (λ c. search rules) (λ c κs. search rules) (λ c. search rules) returns-2)
