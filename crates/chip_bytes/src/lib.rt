@@ -1,5 +1,6 @@
 // The planner's calls on a chip's seven bytes: docs/CODES.md, The C functions.
 #![tactic(auto)]
+
 ghost use Rattle.std.specs.Prelude.{◌≡◌, true, length};
 ghost use Rattle.rules.specs.Document01.Entries.{entries_of};
 ghost use Rattle.rules.specs.Document01.Bank.{apply_all};

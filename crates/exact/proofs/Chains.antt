@@ -36,19 +36,10 @@ gated_on zero c h = absurd (omega arith)
 gated_on (suc on) c h = refl
 
 -- ---- a division
-pub over_zero : (c : Chain) {d : ℕ} → d ≡ 0 → Nothing ≡ reading_of (over c d)
-over_zero none e = refl
-over_zero (along p) e = rw e
-
 pub over_scaled : (c : Chain) (d : ℕ) → 1 ≤ d → scaled_by (reading_of c) 1 d ≡ reading_of (over c d)
 over_scaled none d h = refl
 over_scaled (along p) zero h = absurd (omega arith)
 over_scaled (along p) (suc d) h = rw (num_extend p (suc d), den_extend p (suc d), cap_times (num p) 1 (omega arith), mul-one (num p), cap_times (den p) (suc d) h)
-
--- ---- a word that is none of these codes, as the `_` of a match says it: the code of the last arm first
-abbrev pub NoneOf : List ℕ → ℕ → Type 0
-NoneOf [] w = Unit {0}
-NoneOf (c ∷ cs) w = NoneOf cs w × (w ≡ c → ⊥)
 
 -- ---- a timer
 -- by 1 is as it was
@@ -62,15 +53,6 @@ module _ (c : Chain) where
   timpre_on zero ppre h = absurd (omega arith)
   timpre_on (suc t) ppre h = refl
 
-  -- none by a PPRE that no register holds
-  pub timer_none : (t ppre : ℕ) → NoneOf (16 ∷ 8 ∷ 4 ∷ 2 ∷ 1 ∷ []) ppre → reading_of (over c 0) ≡ reading_of (timer_by t ppre c)
-  timer_none zero ppre h =
-      rw (ne_eqb ppre 1 h.0.0.0.0.1, ne_eqb ppre 2 h.0.0.0.1, ne_eqb ppre 4 h.0.0.1, ne_eqb ppre 8 h.0.1, ne_eqb ppre 16 h.1)
-      (sym (over_zero c refl))
-  timer_none (suc t) ppre h =
-      rw (ne_eqb ppre 1 h.0.0.0.0.1, ne_eqb ppre 2 h.0.0.0.1, ne_eqb ppre 4 h.0.0.1, ne_eqb ppre 8 h.0.1, ne_eqb ppre 16 h.1)
-      (sym (over_zero c refl))
-
 -- ---- an oscillator
 pub oscillator : (h : ℕ) → h ≤ max → Exactly h 1 ≡ reading_of (from_oscillator (runs h))
 unfolding num den
@@ -81,8 +63,8 @@ switched_on zero o h = absurd (omega arith)
 switched_on (suc on) o h = refl
 
 -- HSI by an HSIDIV other than 1, 2, 4, 8
-pub hsi_off : (div : ℕ) → NoneOf (8 ∷ 4 ∷ 2 ∷ 1 ∷ []) div → hsi_by div ≡ off
-hsi_off div h = rw (ne_eqb div 1 h.0.0.0.1, ne_eqb div 2 h.0.0.1, ne_eqb div 4 h.0.1, ne_eqb div 8 h.1)
+pub hsi_off : (div : ℕ) → (div ≡ 1 → ⊥) → (div ≡ 2 → ⊥) → (div ≡ 4 → ⊥) → (div ≡ 8 → ⊥) → hsi_by div ≡ off
+hsi_off div a b c d = rw (ne_eqb div 1 a, ne_eqb div 2 b, ne_eqb div 4 c, ne_eqb div 8 d)
 
 pub never_runs : (on : ℕ) → Nothing ≡ reading_of (from_oscillator (switched on off))
 never_runs zero = refl
@@ -90,10 +72,6 @@ never_runs (suc on) = refl
 
 -- ---- a VCO
 module _ (j : PllName) where
-  pub vco_zero : (o : Oscillator) {m : ℕ} (n e f : ℕ) → m ≡ 0 → Nothing ≡ reading_of (vco_by j o m n e f)
-  vco_zero off n e f z = refl
-  vco_zero (runs h) n e f z = rw z
-
   pub vco_whole_is : (o : Oscillator) (m n : ℕ) {e : ℕ} (f : ℕ) → 1 ≤ m → 1 ≤ n → e ≡ 0 → scaled_by (reading_of (from_oscillator o)) n m ≡ reading_of (vco_by j o m n e f)
   unfolding num den
   vco_whole_is off m n f a b z = refl
@@ -118,12 +96,3 @@ past_source os w h = rw (get_or-eq_default os off h)
 
 pub over_past : (cs : List Chain) (w d : ℕ) → length cs ≤ w → over (get_or cs w none) d ≡ none
 over_past cs w d h = rw (get_or-eq_default cs none h)
-
--- ---- a number that is none of those below k
-abbrev pub NoneBelow : ℕ → ℕ → Type 0
-NoneBelow zero n = Unit {0}
-NoneBelow (suc k) n = NoneBelow k n × (n ≡ k → ⊥)
-
-pub none_below : (k n : ℕ) → NoneBelow k n → k ≤ n
-none_below zero n h = omega arith
-none_below (suc k) n h = omega (arith, none_below k n h.0, h.1)

@@ -1,5 +1,6 @@
 // From a typed request and the chip's state to one complete plan or one refusal: 1, or one of 3 to 23. rcc.rs (freeze).
 #![tactic(auto)]
+
 ghost use Rattle.std.specs.Prelude.{◌≡◌, eqb};
 ghost use Rattle.rules.specs.Answers.{pll_result, buses_result, mcos_result};
 ghost use Rattle.rules.specs.Document01.Chip.{divisor_of};

@@ -1,19 +1,19 @@
 -- With no values read a list is stored: each entry once, behind the word that counts them.
 use mathlib.Core.Path.{◌≡◌, refl, ◌∙◌, sym, ap}
-use mathlib.Core.Bool.{Bool, true, false, cond}
+use mathlib.Core.Bool.{Bool, true, false}
 use mathlib.Core.List.{List, [], ◌∷◌, ◌++◌, append-nil}
-use Prim.Native.Nat.{ℕ, zero, suc, ◌+◌, ◌*◌, ◌-◌, ◌/◌, ◌≤◌, ◌<◌}
+use Prim.Native.Nat.{ℕ, suc, ◌+◌, ◌*◌, ◌-◌, ◌/◌}
 use native.Mathlib.Omega.{arith}
-use borrow.Author.Tests.{lt-ltb, le-ltb, le-leb, lt-leb, ltb-true, ltb-false, leb-true, leb-false}
+use borrow.Author.Tests.{le-leb, lt-leb, ltb-true, ltb-false, leb-true, leb-false}
 use lib.Dec.{ltb, leb}
 use lib.ListN.{length, set, take, drop}
 use Rattle.types.specs.declared.Entry.{Entry}
-use Rattle.rules.specs.Words.{entry_words, nine_at, stored_at, listed_from, listed}
+use Rattle.rules.specs.Words.{entry_words, stored_at, listed_from, listed}
 use Rattle.rules.specs.Document01.Entries.{most}
 use Rattle.rules.proofs.Document01.Run.{stored_length}
-use Rattle.listing.specs.Showing.{Showing, showing, stored_in, show_one, show_all, Ends}
+use Rattle.listing.specs.Showing.{showing, stored_in, show_one, show_all, Ends}
 use Rattle.listing.specs.declared.Place.{Place}
-use Rattle.listing.proofs.Showing.{all_read, passed, stored_in_length}
+use Rattle.listing.proofs.Showing.{all_read, passed}
 
 -- behind the first word
 module _ (c : ℕ) (b : List ℕ) (i : ℕ) (w : List ℕ) where

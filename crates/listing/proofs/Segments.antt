@@ -1,6 +1,6 @@
 -- What holds at the test of the two loops over the PLLs, and that the mask comes to the starts.
-use mathlib.Core.Path.{◌≡◌, refl, ◌∙◌, sym, ap}
-use mathlib.Core.List.{List, [], ◌∷◌, ◌++◌, append-nil}
+use mathlib.Core.Path.{◌≡◌, refl, ◌∙◌, sym}
+use mathlib.Core.List.{List, [], ◌++◌, append-nil}
 use Prim.Native.Nat.{ℕ, zero, suc, ◌+◌, ◌*◌, ◌-◌, ◌/◌, ◌%◌, ◌≤◌, ◌<◌}
 use native.Mathlib.Omega.{arith}
 use lib.ListN.{length}
@@ -10,7 +10,7 @@ use Rattle.rules.specs.Document01.OnePll.{pll_from}
 use Rattle.rules.specs.Document01.Entries.{start_entries, starts, setup_entries, setups}
 use Rattle.listing.specs.Showing.{showing, show_all, far, Fits, Sets, Shows}
 use Rattle.listing.specs.Starts.{start_in, starts_in, Tells}
-use Rattle.listing.proofs.Showing.{shown_append, then, same_room}
+use Rattle.listing.proofs.Showing.{shown_append, same_room}
 
 -- ---- the set-ups
 -- those from PLL k on, from 0

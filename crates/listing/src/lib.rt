@@ -1,5 +1,6 @@
 // A plan's entries as words, nine for each, in one pass over the plan: the list itself, and what a walk over it shows. docs/CODES.md, Entries as words.
 #![tactic(auto)]
+
 ghost use Rattle.std.specs.Prelude.{◌≡◌, [], ◌∷◌, ◌≤◌, ◌*◌, ◌-◌, length};
 ghost use Rattle.rules.specs.Document01.Entries.{entries_of, most, plan_entries};
 ghost use Rattle.rules.specs.Document01.Walk.{stepped_of, fresh_of, shown_of};

@@ -12,12 +12,11 @@ use Rattle.types.specs.declared.Strategy.TheVariants.{Integer, Fractional}
 use Rattle.types.specs.declared.PllRequest.{PllRequest}
 use Rattle.types.specs.declared.Pll.TheVariants.{Runs}
 use Rattle.types.specs.declared.Fraction.{Fraction}
-use Rattle.types.specs.declared.Fraction.TheVariants.{Part}
 use Rattle.types.specs.declared.Fracn.{Fracn}
 use Rattle.types.specs.declared.Fracn.TheVariants.{Value, OutOfRange}
 use Rattle.types.specs.declared.Refusal.{Refusal}
 use Rattle.types.specs.declared.Refusal.TheVariants.{NOutside, FracnOutside, PDividerAbove128, PDividerOdd}
-use Rattle.ieee754.specs.Steps.{float, fracn_of, vco_of}
+use Rattle.ieee754.specs.Steps.{float, fracn_of}
 use Rattle.rules.specs.Document01.Hertz.{hertz_or, or_else}
 use Rattle.rules.specs.Document01.Result.{Result, refused, ok, ◌>>=◌, ◌>>◌}
 use Rattle.rules.specs.Document01.OnePll.{first_of, taken, fraction_of, vco_by, output_of, divider_p, allowed_p, settings_of, settled, running}
@@ -35,14 +34,6 @@ pub first_is : (p q r : Hertz) → hertz_or p (hertz_or q (hertz_or r 0)) ≡ he
 first_is (Hz p) q r = refl
 first_is Unset (Hz q) r = refl
 first_is Unset Unset r = refl
-
--- ---- FRACN and the VCO
-module _ (r n d o : ℕ) where
-  pub by_part : (f v : ℕ) → fracn_of (float r) (float n) (float d) (float o) ≡ Value f → v ≡ vco_of r n f → Multiplied.By (Part f) v ≡ multiplied r n (fraction_of Fractional r n d o)
-  by_part f v e w = rw (e, w)
-
-  pub by_none : fracn_of (float r) (float n) (float d) (float o) ≡ OutOfRange → Multiplied.OutOfRange ≡ multiplied r n (fraction_of Fractional r n d o)
-  by_none e = rw e
 
 -- ---- refusals 14 and 15
 module _ (odd : Bool) (a : PllRequest) (c : Chosen) (f : Fraction) (d : ℕ) (is : d ≡ divider_p c.target a.p) where

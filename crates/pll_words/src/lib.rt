@@ -1,5 +1,6 @@
 // The settings of one PLL as words, and storing them: docs/CODES.md, A PLL as words.
 #![tactic(auto)]
+
 ghost use Rattle.std.specs.Prelude.{◌≡◌};
 ghost use Rattle.pll_words.specs.PllWords.{fracen_of, fracn_of, setting_words, on_of, divider_of, hertz_of, outputs_words, pll_stored};
 

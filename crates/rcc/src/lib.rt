@@ -1,5 +1,6 @@
 // The planner's two calls, with the customer's three demands. rcc.rs (Config, freeze).
 #![tactic(auto)]
+
 ghost use Rattle.std.specs.Prelude.{◌≡◌, cond, length};
 ghost use Rattle.rules.specs.Document01.Plan.{plan_of, bank_plan_of};
 ghost use Rattle.rules.specs.Document01.Entries.{entries_of};

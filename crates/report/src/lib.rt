@@ -1,5 +1,6 @@
 // A plan's report as 55 words: docs/CODES.md, The C functions.
 #![tactic(auto)]
+
 ghost use Rattle.std.specs.Prelude.{◌≡◌, ◌<◌, [], ◌∷◌};
 ghost use Rattle.rules.specs.Document01.OnePll.{clock_of};
 ghost use Rattle.rules.specs.Words.{stored_from, hertz_words, pll_words, report_words};

@@ -1,11 +1,11 @@
 -- A line from its parts.
 use mathlib.Core.Path.{◌≡◌, refl}
-use mathlib.Core.Bool.{true, false, not, ◌&&◌}
+use mathlib.Core.Bool.{true, false, not}
 use mathlib.Core.List.{List, [], ◌∷◌}
-use Prim.Native.Nat.{ℕ, ◌+◌, ◌*◌, ◌/◌, ◌%◌, ◌≤◌, ◌<◌}
+use Prim.Native.Nat.{ℕ, ◌+◌, ◌*◌, ◌≤◌, ◌<◌}
 use lib.Dec.{eqb}
 use lib.ListN.{get_or, replicate}
-use borrow.Author.Tests.{eq-eqb, ne_eqb, le-leb, lt-leb}
+use borrow.Author.Tests.{le-leb, lt-leb}
 use Rattle.laws.proofs.Tests.{by_test}
 use Rattle.types.specs.declared.Hertz.{Hertz}
 use Rattle.rules.specs.Document01.Entries.{bit}
@@ -36,11 +36,3 @@ module _ (report bank : List ℕ) (hse : Hertz) (k : ℕ) where
   pub no_line : 25 < k → replicate 11 0 ≡ line_of report bank hse k
   unfolding line_of
   no_line h = rw (lt-leb k 25 h)
-
--- the parts of a fraction
-module _ (known h n d : ℕ) where
-  pub no_den : d ≡ 0 → 0 ∷ 0 ∷ 0 ∷ 0 ∷ known ∷ [] ≡ exact_parts known h (Exactly n d)
-  no_den e = rw (eq-eqb d 0 e)
-
-  pub with_den : (d ≡ 0 → ⊥) → (t : ℕ) → t ≡ bit (not (eqb (n % d) 0 && eqb (n / d) h)) → t ∷ n / d ∷ n % d ∷ d ∷ 0 ∷ [] ≡ exact_parts known h (Exactly n d)
-  with_den e t q = rw (ne_eqb d 0 e, q)

@@ -1,8 +1,6 @@
 -- `config::configure` meets its contract.
 use mathlib.Core.Path.{◌∙◌, sym}
-use borrow.Author.Tests.{not-true, not-false}
 use Rattle.config.proofs.System.{three, four, rest}
-use borrow.Author.Rules.{rules}
 use Rattle.config.proofs.configure.Goals as goal
 
 pub returns-then-not-limited : goal.returns-then-not-limited

@@ -4,7 +4,6 @@ use mathlib.Core.Bool.{not}
 use lib.Dec.{eqb}
 use borrow.Author.Tests.{eq-eqb, ne_eqb}
 use Rattle.config.proofs.System.{unlike, alike, five, six, settled}
-use borrow.Author.Rules.{rules}
 use Rattle.config.proofs.finish.Goals as goal
 
 pub returns-then-needs-fits : goal.returns-then-needs-fits

@@ -1,6 +1,5 @@
 -- `fields::reset_bank` meets its contract.
 use mathlib.Core.Path.{refl}
-use borrow.Author.Rules.{rules}
 use Rattle.rules.specs.Document01.Bank.{reset_bank}
 use Rattle.fields.proofs.reset_bank.Goals as goal
 

@@ -1,5 +1,4 @@
 -- `flash::at` meets its contract: the table has what the steps say, by one test computed over its 1008 entries.
-use native.Mathlib.Omega.{arith}
 use Rattle.rules.specs.Document01.Flash.{at_column}
 use Rattle.flash.specs.Flash.{placed}
 use Rattle.flash.proofs.Table.{at_place}

@@ -2,7 +2,6 @@
 use mathlib.Core.Path.{◌≡◌, ◌∙◌}
 use Prim.Native.Nat.{ℕ, ◌+◌, ◌*◌, ◌/◌, ◌%◌, ◌<◌}
 use native.Mathlib.Omega.{arith}
-use borrow.Author.Rules.{rules}
 use Rattle.rules.specs.Document01.Flash.{at_column}
 use Rattle.rules.specs.Document01.Chip.{scale_of}
 use Rattle.flash.specs.Flash.{packed, placed}

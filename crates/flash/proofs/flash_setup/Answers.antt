@@ -2,7 +2,6 @@
 use mathlib.Core.Path.{◌≡◌, ap, ◌∙◌}
 use Prim.Native.Nat.{ℕ, ◌/◌, ◌%◌}
 use native.Mathlib.Omega.{arith}
-use borrow.Author.Rules.{rules}
 use Rattle.rules.specs.Document01.Flash.{column_of, at_column, flash_of}
 use Rattle.flash.specs.Flash.{packed}
 use Rattle.flash.proofs.Small.{small}

@@ -1,8 +1,6 @@
 -- `request::read_part` meets its contract.
 use mathlib.Core.Path.{sym, ◌∙◌}
-use borrow.Author.Tests.{not-true, not-false}
 use Rattle.request.proofs.Reading.{bad_part_size, bad_part, part_taken}
-use borrow.Author.Rules.{rules}
 use Rattle.request.proofs.read_part.Goals as goal
 
 pub returns-then-bytes-ne16 : goal.returns-then-bytes-ne16
@@ -10,8 +8,8 @@ returns-then-bytes-ne16 c = c.none_read.ensures ∙ sym (bad_part_size c.args.by
 
 pub returns-then-not-pll_formed : goal.returns-then-not-pll_formed
 returns-then-not-pll_formed c =
-    c.none_read-then-not-pll_formed.ensures ∙ sym (bad_part c.args.bytes.now c.if-bytes-ne16.false (sym c.pll_formed.ensures ∙ not-true _ c.if-not-pll_formed.true))
+    c.none_read-then-not-pll_formed.ensures ∙ sym (bad_part c.args.bytes.now c.if-bytes-ne16.false (sym c.pll_formed.ensures ∙ c.if-not-pll_formed.true))
 
 pub returns : goal.returns
 returns c =
-    rw (part_taken c.args.bytes.now c.if-bytes-ne16.false (sym c.pll_formed.ensures ∙ not-false _ c.if-not-pll_formed.false), c.part_at-part.ensures)
+    rw (part_taken c.args.bytes.now c.if-bytes-ne16.false (sym c.pll_formed.ensures ∙ c.if-not-pll_formed.false), c.part_at-part.ensures)

@@ -1,5 +1,4 @@
 -- `reset_reason::reset_reason` meets its contract: by the PLL count.
-use borrow.Author.Rules.{rules}
 use borrow.Author.Tests.{ne_eqb}
 use Rattle.rules.specs.Document01.ResetReason.{reason_of, reset_of}
 use Rattle.reset_reason.proofs.reset_reason.Goals as goal

@@ -1,5 +1,4 @@
 -- `reset_reason::write_back_of` meets its contract: where RMVF is 0, the sum sets it.
-use native.Mathlib.Omega.{arith}
 use borrow.Author.Tests.{ne_eqb}
 use Rattle.rules.specs.Document01.ResetReason.{write_back_of}
 use Rattle.reset_reason.proofs.write_back_of.Goals as goal

@@ -1,5 +1,4 @@
 -- `view::clock_line` meets its contract.
-use borrow.Author.Rules.{rules}
 use Rattle.view.proofs.Line.{line, no_line}
 use Rattle.view.proofs.clock_line.Goals as goal
 

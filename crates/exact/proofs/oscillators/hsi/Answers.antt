@@ -24,4 +24,4 @@ pub returns-in_default : goal.returns-in_default
 unfolding hsi_of
 returns-in_default c fed =
     let w = c.word-div in
-    rw (← w.ensures, hsi_off w.result ((((tt, λ e. omega arith), λ e. omega arith), λ e. omega arith), λ e. omega arith)) (never_runs (word c.args.bank.now 76))
+    rw (← w.ensures, hsi_off w.result (λ e. omega arith) (λ e. omega arith) (λ e. omega arith) (λ e. omega arith)) (never_runs (word c.args.bank.now 76))

@@ -1,7 +1,6 @@
 -- `request::formed::formed` meets its contract.
 use Rattle.request.specs.Parts.{formed}
 use Rattle.request.proofs.Wrong.{both}
-use borrow.Author.Rules.{rules}
 use Rattle.request.proofs.formed.formed.Goals as goal
 
 pub returns : goal.returns

@@ -1,6 +1,5 @@
 -- `request::formed::hertz` meets its contract.
 use Rattle.request.specs.Parts.{hertz_ok}
-use borrow.Author.Rules.{rules}
 use Rattle.request.proofs.formed.hertz.Goals as goal
 
 pub returns : goal.returns

@@ -1,6 +1,5 @@
 -- `request::formed::pll` meets its contract.
 use Rattle.request.proofs.Wrong.{both}
-use borrow.Author.Rules.{rules}
 use Rattle.request.proofs.formed.pll.Goals as goal
 
 pub returns : goal.returns

@@ -1,6 +1,5 @@
 -- `request::formed::plls` meets its contract.
 use Rattle.request.proofs.Wrong.{both}
-use borrow.Author.Rules.{rules}
 use Rattle.request.proofs.formed.plls.Goals as goal
 
 pub returns : goal.returns

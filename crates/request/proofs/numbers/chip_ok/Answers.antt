@@ -1,5 +1,4 @@
 -- `request::numbers::chip_ok` meets its contract.
-use borrow.Author.Rules.{rules}
 use Rattle.request.specs.Chips.{chip_ok}
 use Rattle.request.proofs.numbers.chip_ok.Goals as goal
 

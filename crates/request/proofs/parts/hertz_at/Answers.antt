@@ -1,7 +1,6 @@
 -- `request::parts::hertz_at` meets its contract.
 use mathlib.Core.Path.{ap}
 use borrow.Author.Tests.{eq-eqb, ne_eqb}
-use borrow.Author.Rules.{rules}
 use Rattle.types.specs.declared.Hertz.TheVariants.{Hz}
 use Rattle.request.specs.Parts.{hertz_at}
 use Rattle.request.proofs.parts.hertz_at.Goals as goal

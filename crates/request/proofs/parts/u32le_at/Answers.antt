@@ -1,5 +1,4 @@
 -- `request::parts::u32le_at` meets its contract.
-use borrow.Author.Rules.{rules}
 use Rattle.request.specs.Parts.{u32le_at}
 use Rattle.request.proofs.parts.u32le_at.Goals as goal
 

@@ -3,7 +3,6 @@ use mathlib.Core.Path.{ap, ◌∙◌}
 use Prim.Native.Nat.{ℕ, ◌+◌}
 use borrow.Author.Tests.{eq-eqb, ne_eqb, le-leb, lt-leb}
 use Rattle.view.specs.View.{divisor_of}
-use borrow.Author.Rules.{rules}
 use Rattle.view.proofs.tree.divisor_of.Goals as goal
 
 pub returns-then-k-eq0 : goal.returns-then-k-eq0

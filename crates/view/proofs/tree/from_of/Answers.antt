@@ -1,6 +1,5 @@
 -- `view::tree::from_of` meets its contract.
 use mathlib.Core.Path.{ap, ◌∙◌}
-use borrow.Author.Rules.{rules}
 use borrow.Author.Tests.{eq-eqb, ne_eqb, le-leb, lt-leb}
 use Rattle.view.specs.View.{sw_clock, per_clock, mco1_clock, mco2_clock, from_of}
 use Rattle.view.proofs.tree.from_of.Goals as goal

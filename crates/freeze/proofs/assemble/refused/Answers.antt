@@ -1,0 +1,8 @@
+-- `freeze::assemble::refused` meets its contract.
+use Rattle.rules.specs.Document01.Plan.{blank_plan}
+use borrow.Author.Rules.{rules}
+use Rattle.freeze.proofs.assemble.refused.Goals as goal
+
+pub returns : goal.returns
+unfolding blank_plan
+returns c = rw c.no_clocks-clocks.ensures

@@ -1,0 +1,12 @@
+-- `listing::show_list` meets its contract: by the answer.
+use Rattle.rules.specs.Document01.Entries.{entries_of}
+use Rattle.listing.proofs.Showing.{nothing, as_ends}
+use Rattle.listing.proofs.show_list.Goals as goal
+
+pub returns-in-Accepted : goal.returns-in-Accepted
+unfolding entries_of
+returns-in-Accepted c = rw c.in-Accepted.is c.show_plan.ensures
+
+pub returns-in-Refused : goal.returns-in-Refused
+unfolding entries_of
+returns-in-Refused c = rw c.in-Refused.is (as_ends (nothing _ _ _ 0 _))
