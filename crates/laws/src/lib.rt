@@ -1,2 +1,2 @@
-// Laws on numbers, tests, lists and lent records that speak of no clock: each is stated once, and cited from above. There is no code here.
+// Laws on numbers, tests and lists that speak of no clock: each is stated once, and cited from above. There is no code here.
 #![tactic(auto)]

@@ -1,5 +1,6 @@
 // The registers of each PLL as words, for a request: document 02, Item 1. docs/CODES.md, PLL registers as words.
 #![tactic(auto)]
+
 ghost use Rattle.std.specs.Prelude.{◌≡◌, ◌<◌, length};
 ghost use Rattle.rules.specs.Words.{stored_from};
 ghost use Rattle.pll_registers.specs.Fields.{fields_of};

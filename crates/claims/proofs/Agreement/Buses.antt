@@ -16,7 +16,6 @@ use Rattle.rules.specs.Document01.Result as Rules
 use Rattle.rules.specs.Document01.Result.{Result, ok}
 use Rattle.rules.specs.Document01.Hertz.{ratio_of, hertz_or, not_zero}
 use Rattle.rules.specs.Document01.Buses.{hpre_of, hpre_for, ahb_of, apb_of, timer_of}
-use Rattle.rules.specs.Document01.Plan as R
 use Rattle.rules.specs.Document01.Plan.{buses_of}
 use Rattle.claims.specs.Rust.Run.{Outcome, panics, ends, Run, continue, return, div_ceil, unwrap_or}
 use Rattle.claims.specs.Rust.Rcc as F

@@ -14,7 +14,7 @@ use Rattle.types.specs.declared.FoundM.{FoundM}
 use Rattle.types.specs.declared.FoundM.TheVariants.{Nothing, M}
 use Rattle.types.specs.declared.Refusal.{Refusal}
 use Rattle.types.specs.declared.Refusal.TheVariants.{AboveLimit, McoHseUnstated, Pll1PUnlikeSystem, SourceZero, OutputZero, TargetOutside, NoM, NOutside}
-use Rattle.rules.specs.Document01.Result.{Result, refused, ok, ◌>>=◌, ◌>>◌}
+use Rattle.rules.specs.Document01.Result.{Result, refused, ok, ◌>>=◌}
 use Rattle.rules.specs.Document01.Refusals.{number_of}
 use Rattle.rules.specs.Document01.Hertz.{is_set, not_zero}
 use Rattle.rules.specs.Document01.Request.{within, limited, from_hse1, from_hse2, stated, pll1_asked, source_of, system_of, needs_pll1, like, asked_of, system_fits, configured}

@@ -19,7 +19,6 @@ use Rattle.rules.specs.Document01.Hertz.{ratio_of, is_set, hertz_or}
 use Rattle.rules.specs.Document01.Request.{from_hse1, from_hse2}
 use Rattle.rules.specs.Document01.OnePll.{p_clock, q_clock, pll_from}
 use Rattle.rules.specs.Document01.Mco.{planned, mco1_input, mco2_input, mco_of}
-use Rattle.rules.specs.Document01.Plan as R
 use Rattle.rules.specs.Document01.Plan.{mcos_of}
 use Rattle.claims.specs.Rust.Run.{unwrap}
 use Rattle.claims.specs.Rust.Mco.{Prescaled, calculate_prescaler}

@@ -22,7 +22,6 @@ use Rattle.rules.specs.Document01.Request.{for_pll1_q, pll_at, within, from_hse1
 use Rattle.types.specs.declared.Refusal.TheVariants.{NOutside}
 use Rattle.rules.specs.Document01.OnePll.{Range, settings_of, vco_by, output_of, clock_of, p_clock, spanned, divided_by, settled, fraction_of, allowed_p, divider_p, runs, running, pll_of, range_for, target_for, first_of, pll_from}
 use Rattle.rules.specs.Document01.Entries.{setup_entries}
-use Rattle.rules.specs.Document01.Plan as R
 use Rattle.rules.specs.Document01.Plan.{plls_of, planned_at, by_number}
 use Rattle.claims.specs.Rust.Run.{Outcome, panics, ends, Run, continue}
 use Rattle.claims.specs.Rust.CoreClocks.{PllClocks}

@@ -28,7 +28,6 @@ use Rattle.rules.specs.Document01.Request.{source_of, system_of, needs_pll1, ask
 use Rattle.rules.specs.Document01.OnePll.{p_clock, pll_from}
 use Rattle.rules.specs.Document01.Buses.{peripheral_of}
 use Rattle.rules.specs.Document01.Flash.{flash_of}
-use Rattle.rules.specs.Document01.Plan as R
 use Rattle.rules.specs.Document01.Plan.{system_from, plls_of, hsi_ready, buses_of, mcos_of, plan_with, chosen_plan, answered, answer_to, sw_of}
 use Rattle.rules.specs.Document01.Entries.{setup_entries, clock_entries, hse_entries, bus_entries, plan_entries, entries_of, list_with}
 use Rattle.claims.specs.Rust.Run.{Outcome, panics, ends, Run, continue, assert, unwrap, is_some}

@@ -22,7 +22,6 @@ use Rattle.rules.specs.Document01.OnePll.{clock_of, p_clock, pll_from}
 use Rattle.rules.specs.Document01.Mco.{mco1_code, mco2_code}
 use Rattle.types.specs.declared.Waits.{Waits}
 use Rattle.rules.specs.Document01.Flash.{flash_of}
-use Rattle.rules.specs.Document01.Plan as R
 use Rattle.rules.specs.Document01.Plan.{src_of}
 use Rattle.rules.specs.Document01.Entries.{prften_of, bit, hse_entries, source_entries, output_start, start_entries}
 use Rattle.claims.specs.Rust.Run.{ends}

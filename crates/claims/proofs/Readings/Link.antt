@@ -16,7 +16,7 @@ use Rattle.types.specs.declared.Plan.{Plan}
 use Rattle.types.specs.declared.Refusal.TheVariants.{McoHseUnstated}
 use Rattle.rules.specs.Document01.Result.{Result, refused, ok, ◌>>=◌, ◌>>◌}
 use Rattle.rules.specs.Document01.Hertz.{is_set, hertz_or}
-use Rattle.rules.specs.Document01.Request.{pll_at, limited, from_hse1, from_hse2, stated, source_of, system_of, needs_pll1, configured, asked_of}
+use Rattle.rules.specs.Document01.Request.{pll_at, limited, from_hse1, from_hse2, source_of, system_of, needs_pll1, configured, asked_of}
 use Rattle.rules.specs.Document01.OnePll.{pll_of, p_clock, q_clock, pll_from}
 use Rattle.rules.specs.Document01.Buses.{peripheral_of, ahb_of, apb_of}
 use Rattle.rules.specs.Document01.Mco.{mco1_input, mco2_input, mco_of}

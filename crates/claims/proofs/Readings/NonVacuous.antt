@@ -15,7 +15,6 @@ use Rattle.rules.specs.Document01.Plan.{answer_to}
 use Rattle.rules.specs.Document01.Entries.{entries_of}
 use Rattle.rules.specs.Document01.Bank.{apply_all, reset_bank}
 use Rattle.rules.specs.Manual.Path.{pll1, pll2, pll3, by, whole, Path, direct, through, num, den, floored, NoRemainder, Near}
-use Rattle.rules.specs.Manual.Tree
 use Rattle.rules.specs.Manual.Tree.{fed_by, none, along, P, Q, R, Clock, sys, hclk, pclk1, pclk2, pclk3, timx, timy, per, hsi, csi, hsi48, lsi, hse, mco1, mco2, output, path_of}
 use Rattle.claims.specs.Demands.Report.{reported, hertz_of}
 use Rattle.claims.specs.Demands.Readings.{started, steady, Covered, TreeReads, TwoReadings}

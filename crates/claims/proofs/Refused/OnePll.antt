@@ -30,7 +30,7 @@ use Rattle.rules.specs.Document01.OnePll as Chain
 use Rattle.rules.specs.Document01.OnePll.{wanted, none_zero, vco_by, output_of, clock_of, admissible, first_of, taken, fraction_of, allowed_p, spanned, divided_by, settings_of, settled, runs, running, pll_of, p_clock, q_clock}
 use Rattle.rules.specs.Document01.Mco.{planned}
 use Rattle.claims.specs.Demands.Rows.{Row, ◌when◌, first_that}
-use Rattle.claims.specs.Demands.Quantities.{any, is_zero, any_to, number_m, is_fractional, min, max, range, target, m, ref, n, fracn, divider_p, vco, clock_at}
+use Rattle.claims.specs.Demands.Quantities.{any, is_zero, any_to, number_m, is_fractional, min, max, range, target, m, ref, n, fracn, vco, clock_at}
 use Rattle.claims.specs.Demands.Refused.{pll_rows}
 use Rattle.claims.proofs.Refused.Says.{told, said_by, Says, says_then, says_next, says_ok, says_test, says_tested}
 

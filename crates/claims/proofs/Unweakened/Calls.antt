@@ -22,7 +22,6 @@ use Rattle.rules.specs.Document01.Bytes.{request_bytes}
 use Rattle.rules.specs.Document01.Plan.{Asked, request_of, plan_of}
 use Rattle.rules.specs.Document01.Entries.{entries_of, fewest, most}
 use Rattle.rules.specs.Document01.Bank.{reset_bank}
-use Rattle.rules.specs.Manual.Tree.{sys}
 use Rattle.rules.specs.Stated.Applied.{Applied}
 use Rattle.claims.specs.Demands.Calls.{plan_numbers, bank_numbers, Answered, Kept, AsFreeze, IsLegal, ReadTwice, BankReadTwice}
 use Rattle.claims.specs.Demands.Rows.{◌when◌, AsRows}

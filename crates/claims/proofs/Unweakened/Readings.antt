@@ -17,7 +17,7 @@ use Rattle.rules.specs.Document01.Plan.{answer_to}
 use Rattle.rules.specs.Document01.Entries.{entries_of}
 use Rattle.rules.specs.Document01.Bank.{apply_all, reset_bank}
 use Rattle.rules.specs.Manual.Path.{PllName, pll1, pll2, no_pll, by, whole, part, direct, through, den, floored, Near, Readings}
-use Rattle.rules.specs.Manual.Tree.{fed_by, none, along, P, Q, Clock, sys, hclk, pclk1, pclk2, pclk3, timx, timy, per, hsi, csi, hsi48, lsi, hse, mco1, mco2, output, number, path_of}
+use Rattle.rules.specs.Manual.Tree.{fed_by, along, P, Q, Clock, sys, hclk, pclk1, pclk2, pclk3, timx, timy, per, hsi, csi, hsi48, lsi, hse, mco1, mco2, output, number, path_of}
 use Rattle.claims.specs.Demands.Report.{reported, hertz_of}
 use Rattle.claims.specs.Demands.Readings.{via_of, started, steady, Covered, TwoReadings}
 use Rattle.rules.proofs.Computes.{by_rules, by_tree}

@@ -1,7 +1,6 @@
 -- `core_clocks::bus_clocks` meets its contract.
 use mathlib.Core.Path.{◌∙◌}
 use Rattle.rules.specs.Document01.Plan.{buses_of}
-use borrow.Author.Rules.{rules}
 use Rattle.core_clocks.proofs.bus_clocks.Goals as goal
 
 pub returns : goal.returns

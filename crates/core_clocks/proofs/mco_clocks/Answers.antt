@@ -4,7 +4,6 @@ use Rattle.rules.specs.Document01.OnePll.{pll_from, p_clock, q_clock}
 use Rattle.rules.specs.Document01.Mco.{mco1_input, mco2_input}
 use Rattle.rules.specs.Document01.Plan.{mcos_of}
 use Rattle.core_clocks.proofs.InTurn.{in_turn}
-use borrow.Author.Rules.{rules}
 use Rattle.core_clocks.proofs.mco_clocks.Goals as goal
 
 pub returns : goal.returns

@@ -1,6 +1,5 @@
 -- `core_clocks::peripheral` meets its contract.
 use Rattle.rules.specs.Document01.Buses.{peripheral_of}
-use borrow.Author.Rules.{rules}
 use Rattle.core_clocks.proofs.peripheral.Goals as goal
 
 pub returns-in-Unset : goal.returns-in-Unset

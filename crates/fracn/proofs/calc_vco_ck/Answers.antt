@@ -1,5 +1,5 @@
 -- `fracn::calc_vco_ck` meets its contract.
-use Rattle.std.proofs.Common.{◌≡◌, refl, ap, ◌∙◌, lt_of_lt_of_le, lit≤, rules}
+use Rattle.std.proofs.Common.{◌≡◌, refl, ap, ◌∙◌, lt_of_lt_of_le, lit≤}
 use lib.Ieee.{Float, of_bits, of_int, to_unsigned, binary32, mul, add, div}
 use Rattle.ieee754.proofs.Same.{vco_same}
 use Rattle.ieee754.specs.Steps.{vco_of, float}

@@ -1,6 +1,5 @@
 -- `fracn::cut_down` meets its contract: `Pattern` says what the shifted digits are.
-use Rattle.std.proofs.Common.{rules}
-use Rattle.fracn.proofs.Pattern.{down_real, down_from, down_by, down_is}
+use Rattle.fracn.proofs.Pattern.{down_from, down_by, down_is}
 use Rattle.fracn.proofs.cut_down.Goals as goal
 
 pub overflow_sub-result : goal.overflow_sub-result

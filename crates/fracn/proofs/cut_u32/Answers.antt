@@ -1,5 +1,5 @@
 -- `fracn::cut_u32` meets its contract: each way is a lemma of `Sides` or `Cut`.
-use Rattle.std.proofs.Common.{sym, rules}
+use Rattle.std.proofs.Common.{sym}
 use lib.Ieee.{of_bits}
 use Rattle.ieee754.proofs.Cut.{cut_high}
 use Rattle.fracn.proofs.Sides.{above, below, under_one}

@@ -1,7 +1,6 @@
 -- `fracn::cut_up` meets its contract: `Pattern` says what the shifted digits are.
-use Rattle.std.proofs.Common.{T, sym, subst, rules}
-use lib.Ieee.{binary32, fits}
-use Rattle.fracn.proofs.Pattern.{up_real, up_from, up_by, up_is}
+use Rattle.std.proofs.Common.{T, sym, subst}
+use Rattle.fracn.proofs.Pattern.{up_from, up_by, up_is}
 use Rattle.fracn.proofs.cut_up.Goals as goal
 
 pub overflow_sub-result : goal.overflow_sub-result

@@ -1,5 +1,5 @@
 -- `fracn::fracn_for` meets its contract.
-use Rattle.std.proofs.Common.{◌≡◌, ◌∙◌, rules}
+use Rattle.std.proofs.Common.{◌≡◌, ◌∙◌}
 use Rattle.ieee754.specs.Steps.{float, fracn_of}
 use Rattle.ieee754.proofs.Zero.{fracn_always}
 use Rattle.fracn.proofs.fracn_for.Goals as goal

@@ -1,5 +1,4 @@
 -- `registers::apply` meets its contract: by the answer.
-use borrow.Author.Rules.{rules}
 use Rattle.rules.specs.Document01.Entries.{entries_of}
 use Rattle.registers.proofs.apply.Goals as goal
 

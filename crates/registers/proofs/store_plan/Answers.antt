@@ -1,5 +1,4 @@
 -- `registers::store_plan` meets its contract, part after part.
-use borrow.Author.Rules.{rules}
 use Rattle.registers.proofs.Whole.{stored}
 use Rattle.registers.proofs.store_plan.Goals as goal
 

@@ -13,7 +13,7 @@ use Rattle.types.specs.declared.Pll.TheVariants.{Idle, Runs}
 use Rattle.types.specs.declared.FoundM.{FoundM}
 use Rattle.types.specs.declared.FoundM.TheVariants.{Nothing, M}
 use Rattle.types.specs.declared.Refusal.TheVariants.{NOutside}
-use Rattle.rules.specs.Document01.Result.{Result, refused, ok, ◌>>=◌, ◌>>◌, require}
+use Rattle.rules.specs.Document01.Result.{Result, refused, ok, ◌>>=◌, require}
 use Rattle.rules.specs.Document01.ChoiceOfM.{chosen_m, Admissible}
 use Rattle.rules.specs.Document01.OnePll.{wanted, counted_outputs, largest, Range, medium, wide, range_of, admissible, first_of, fraction_of, divider_p, allowed_p, spanned, range_for, target_for, divided_by, settled, runs, running, pll_of}
 use Rattle.laws.proofs.Tests.{by_test, and_left, and_right}

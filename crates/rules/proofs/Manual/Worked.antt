@@ -1,7 +1,7 @@
 -- Two banks worked through: every clock's path.
 use mathlib.Core.Path.{◌≡◌, refl}
 use mathlib.Core.List.{List, [], ◌∷◌, ◌++◌, map}
-use Prim.Native.Nat.{ℕ, ◌+◌}
+use Prim.Native.Nat.{ℕ}
 use lib.ListN.{replicate}
 use Rattle.rules.specs.Manual.Path.{pll1, pll2, pll3, whole, part, Path, direct, through}
 use Rattle.rules.specs.Manual.Tree

@@ -5,7 +5,7 @@ use Rattle.types.specs.declared.Hertz.TheVariants.{Unset, Hz}
 use Rattle.types.specs.declared.Bus.{Bus}
 use Rattle.types.specs.declared.Selected.{Selected}
 use Rattle.types.specs.declared.Refusal.TheVariants.{BusZero, AhbZero}
-use Rattle.rules.specs.Document01.Result.{Result, ok, ◌>>=◌, ◌>>◌, require}
+use Rattle.rules.specs.Document01.Result.{Result, ok, ◌>>◌, require}
 use Rattle.rules.specs.Document01.Hertz.{ratio_of, hertz_or, not_zero}
 
 -- step 5: CSI if 4,000,000, else HSI

@@ -7,7 +7,7 @@ use Rattle.types.specs.declared.Hsidiv.{Hsidiv}
 use Rattle.types.specs.declared.Chip.{Chip}
 use Rattle.types.specs.declared.ChipState.{ChipState}
 use Rattle.types.specs.declared.Refusal.TheVariants.{OutsideCodes}
-use Rattle.rules.specs.Document01.Result.{Result, ok, ◌>>=◌, ◌>>◌, require}
+use Rattle.rules.specs.Document01.Result.{Result, ok, ◌>>◌, require}
 
 -- 0 or 1
 abbrev pub is_bit : ℕ → Bool

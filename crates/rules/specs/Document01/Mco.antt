@@ -6,7 +6,7 @@ use Rattle.types.specs.declared.Mco.{Mco}
 use Rattle.types.specs.declared.Mco1Source.{Mco1Source}
 use Rattle.types.specs.declared.Mco2Source.{Mco2Source}
 use Rattle.types.specs.declared.Refusal.TheVariants.{Mco1Lse, McoNoOutput, McoZero, McoRatio}
-use Rattle.rules.specs.Document01.Result.{Result, refused, ok, ◌>>=◌, ◌>>◌, require}
+use Rattle.rules.specs.Document01.Result.{Result, refused, ok, ◌>>◌, require}
 use Rattle.rules.specs.Document01.Hertz.{ratio_of, hertz_or}
 
 -- refusal 21

@@ -1,7 +1,6 @@
 -- `sheet::fresh` meets its contract.
 use mathlib.Core.Path.{refl}
 use Rattle.sheet.specs.Sheet.{fresh_sheet}
-use borrow.Author.Rules.{rules}
 use Rattle.sheet.proofs.fresh.Goals as goal
 
 pub returns : goal.returns

@@ -1,8 +1,6 @@
 -- `sheet::no_pll3` meets its contract.
-use Prim.Native.Nat.{◌-◌}
 use mathlib.Core.Path.{sym, ◌∙◌}
-use Rattle.sheet.proofs.Zeros.{Zeros, begins, no_zero, goes_on, ends}
-use borrow.Author.Rules.{rules}
+use Rattle.sheet.proofs.Zeros.{no_zero, goes_on, ends}
 use Rattle.sheet.proofs.no_pll3.Goals as goal
 
 pub returns-then-byte_at-ne0 : goal.returns-then-byte_at-ne0

@@ -1,8 +1,6 @@
 -- The loop of `sheet::no_pll3`.
 use Prim.Native.Nat.{◌-◌}
-use mathlib.Core.Path.{sym, ◌∙◌}
-use Rattle.sheet.proofs.Zeros.{Zeros, begins, no_zero, goes_on, ends}
-use borrow.Author.Rules.{rules}
+use Rattle.sheet.proofs.Zeros.{Zeros}
 use Rattle.sheet.proofs.no_pll3.Given as goal
 
 abbrev pub invariant-loop-i : goal.invariant-loop-i

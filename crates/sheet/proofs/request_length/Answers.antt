@@ -1,6 +1,5 @@
 -- `sheet::request_length` meets its contract.
 use mathlib.Core.Path.{◌∙◌}
-use borrow.Author.Rules.{rules}
 use Rattle.sheet.specs.Sheet.{request_length}
 use Rattle.sheet.proofs.request_length.Goals as goal
 

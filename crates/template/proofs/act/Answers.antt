@@ -1,5 +1,4 @@
 -- `template::act` meets its contract.
-use borrow.Author.Rules.{rules}
 use borrow.Author.Tests.{not-true, not-false}
 use Rattle.template.proofs.Reading.{not_shown, opened, as_it_is, nothing_more, commanded}
 use Rattle.template.proofs.Written.{nothing, told}

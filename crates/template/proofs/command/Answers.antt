@@ -1,5 +1,4 @@
 -- `template::command` meets its contract.
-use borrow.Author.Rules.{rules}
 use borrow.Author.Tests.{eq-eqb, ne_eqb}
 use Rattle.template.proofs.Written.{nothing}
 use Rattle.template.specs.Template.{command_writes}

@@ -1,10 +1,6 @@
 -- `template::fill` meets its contract.
 use mathlib.Core.Path.{refl}
-use Prim.Native.Nat.{◌-◌}
-use lib.ListN.{length}
-use borrow.Author.Rules.{rules}
-use Rattle.template.proofs.Whole.{Going, starts, goes_on, whole}
-use Rattle.template.proofs.Written.{within, kept}
+use Rattle.template.proofs.Whole.{starts, goes_on}
 use Rattle.template.proofs.fill.Goals as goal
 
 pub loop-i-init : goal.loop-i-init

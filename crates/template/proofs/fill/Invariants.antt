@@ -1,10 +1,7 @@
 -- The loop of `template::fill`.
-use mathlib.Core.Path.{refl}
 use Prim.Native.Nat.{◌-◌}
 use lib.ListN.{length}
-use borrow.Author.Rules.{rules}
-use Rattle.template.proofs.Whole.{Going, starts, goes_on, whole}
-use Rattle.template.proofs.Written.{within, kept}
+use Rattle.template.proofs.Whole.{Going}
 use Rattle.template.proofs.fill.Given as goal
 
 abbrev pub invariant-loop-i : goal.invariant-loop-i

@@ -1,9 +1,7 @@
 -- `template::in_braces` meets its contract.
 use mathlib.Core.Bool.{Bool}
 use mathlib.Core.Path.{sym, ap, ◌∙◌}
-use native.Mathlib.Omega.{arith}
-use borrow.Author.Rules.{rules}
-use Rattle.template.proofs.Reading.{from_48, digit, colon, command}
+use Rattle.template.proofs.Reading.{digit, colon, command}
 use Rattle.template.specs.Template.{at_stage}
 use Rattle.template.proofs.in_braces.Goals as goal
 

@@ -1,6 +1,5 @@
 -- `template::next_state` meets its contract.
 use mathlib.Core.Path.{◌∙◌}
-use borrow.Author.Rules.{rules}
 use Rattle.template.proofs.Reading.{in_text, to_braces, to_text, waits, within_braces}
 use Rattle.template.proofs.next_state.Goals as goal
 

@@ -1,8 +1,5 @@
 -- `text::find` meets its contract.
-use Prim.Native.Nat.{◌-◌}
-use lib.ListN.{length}
-use Rattle.text.proofs.Parts.{Searched, begins, found, goes_on, ends}
-use borrow.Author.Rules.{rules}
+use Rattle.text.proofs.Parts.{found, goes_on, ends}
 use Rattle.text.proofs.find.Goals as goal
 
 pub returns-then-s-i : goal.returns-then-s-i

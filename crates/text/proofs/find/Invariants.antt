@@ -1,8 +1,7 @@
 -- The loop of `text::find`.
 use Prim.Native.Nat.{◌-◌}
 use lib.ListN.{length}
-use Rattle.text.proofs.Parts.{Searched, begins, found, goes_on, ends}
-use borrow.Author.Rules.{rules}
+use Rattle.text.proofs.Parts.{Searched}
 use Rattle.text.proofs.find.Given as goal
 
 abbrev pub invariant-loop-i : goal.invariant-loop-i

@@ -1,11 +1,6 @@
 -- `text::hertz` meets its contract.
 use mathlib.Core.Path.{sym, ◌∙◌}
-use native.Mathlib.Omega.{arith}
-use Prim.Native.Nat.{◌-◌}
-use lib.ListN.{length, get_or}
-use lib.Seq.{length-take-le}
-use Rattle.text.proofs.Digits.{unit_at_most, no_unit, in_unit, nothing}
-use borrow.Author.Rules.{rules}
+use Rattle.text.proofs.Digits.{no_unit, in_unit, nothing}
 use Rattle.text.proofs.hertz.Goals as goal
 
 pub returns-then-n-eq0 : goal.returns-then-n-eq0

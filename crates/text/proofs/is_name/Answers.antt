@@ -1,9 +1,6 @@
 -- `text::is_name` meets its contract.
-use Prim.Native.Nat.{◌-◌}
-use lib.ListN.{length}
-use Rattle.text.proofs.Named.{Compared, begins, other, goes_on, ends}
+use Rattle.text.proofs.Named.{other, goes_on, ends}
 use mathlib.Core.Path.{◌∙◌}
-use borrow.Author.Rules.{rules}
 use Rattle.text.proofs.is_name.Goals as goal
 
 pub returns-then-column-i : goal.returns-then-column-i

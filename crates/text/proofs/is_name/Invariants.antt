@@ -1,9 +1,7 @@
 -- The loop of `text::is_name`.
 use Prim.Native.Nat.{◌-◌}
 use lib.ListN.{length}
-use Rattle.text.proofs.Named.{Compared, begins, other, goes_on, ends}
-use mathlib.Core.Path.{◌∙◌}
-use borrow.Author.Rules.{rules}
+use Rattle.text.proofs.Named.{Compared}
 use Rattle.text.proofs.is_name.Given as goal
 
 abbrev pub invariant-loop-i : goal.invariant-loop-i

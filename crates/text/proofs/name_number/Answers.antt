@@ -1,8 +1,6 @@
 -- `text::name_number` meets its contract.
-use Prim.Native.Nat.{◌-◌}
-use Rattle.text.proofs.Named.{Passed, none_passed, pass, named, no_name}
+use Rattle.text.proofs.Named.{none_passed, pass, named, no_name}
 use mathlib.Core.Path.{sym, ◌∙◌}
-use borrow.Author.Rules.{rules}
 use Rattle.text.proofs.name_number.Goals as goal
 
 pub loop-k-init : goal.loop-k-init

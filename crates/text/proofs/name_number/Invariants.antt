@@ -1,8 +1,6 @@
 -- The loop of `text::name_number`.
 use Prim.Native.Nat.{◌-◌}
-use Rattle.text.proofs.Named.{Passed, none_passed, pass, named, no_name}
-use mathlib.Core.Path.{sym, ◌∙◌}
-use borrow.Author.Rules.{rules}
+use Rattle.text.proofs.Named.{Passed}
 use Rattle.text.proofs.name_number.Given as goal
 
 abbrev pub invariant-loop-k : goal.invariant-loop-k

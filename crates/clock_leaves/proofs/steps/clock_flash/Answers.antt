@@ -1,6 +1,5 @@
 -- `clock_leaves::clock_flash` meets its contract.
 use native.Mathlib.Omega.{arith}
-use borrow.Author.Rules.{rules}
 use Rattle.clock_leaves.proofs.WaitStates.{no_clock, no_scale, by_scale}
 use Rattle.clock_leaves.proofs.steps.clock_flash.Goals as goal
 

@@ -1,6 +1,5 @@
 -- `core_clocks::sources::mco1_input` meets its contract.
 use Rattle.rules.specs.Document01.Mco.{mco1_input}
-use borrow.Author.Rules.{rules}
 use Rattle.core_clocks.proofs.sources.mco1_input.Goals as goal
 
 pub returns-in-Hsi : goal.returns-in-Hsi

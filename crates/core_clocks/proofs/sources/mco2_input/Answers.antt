@@ -1,6 +1,5 @@
 -- `core_clocks::sources::mco2_input` meets its contract.
 use Rattle.rules.specs.Document01.Mco.{mco2_input}
-use borrow.Author.Rules.{rules}
 use Rattle.core_clocks.proofs.sources.mco2_input.Goals as goal
 
 pub returns-in-Sysclk : goal.returns-in-Sysclk

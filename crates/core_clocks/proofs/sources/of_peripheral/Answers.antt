@@ -1,7 +1,6 @@
 -- `core_clocks::sources::of_peripheral` meets its contract.
 use Rattle.rules.specs.Document01.Buses.{peripheral_of}
 use borrow.Author.Tests.{eq-eqb, ne_eqb}
-use borrow.Author.Rules.{rules}
 use Rattle.core_clocks.proofs.sources.of_peripheral.Goals as goal
 
 pub returns-then-h-e : goal.returns-then-h-e

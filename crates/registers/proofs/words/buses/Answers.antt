@@ -1,5 +1,4 @@
 -- `registers::words::buses` meets its contract.
-use borrow.Author.Rules.{rules}
 use Rattle.fields.proofs.Stores.{next, next2}
 use Rattle.rules.specs.Document01.Entries.{bus_entries}
 use Rattle.registers.proofs.words.buses.Goals as goal

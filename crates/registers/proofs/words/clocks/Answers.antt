@@ -1,5 +1,4 @@
 -- `registers::words::clocks` meets its contract.
-use borrow.Author.Rules.{rules}
 use Rattle.fields.proofs.Stores.{next, next_as, next2}
 use Rattle.rules.specs.Document01.Entries.{clock_entries}
 use Rattle.registers.proofs.words.clocks.Goals as goal

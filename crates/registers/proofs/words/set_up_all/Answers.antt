@@ -1,6 +1,5 @@
 -- `registers::words::set_up_all` meets its contract, one PLL after the other.
 use mathlib.Core.List.{◌++◌}
-use borrow.Author.Rules.{rules}
 use Rattle.rules.specs.Document01.Entries.{setup_entries}
 use Rattle.rules.specs.Document01.OnePll.{pll_from}
 use Rattle.fields.proofs.Join.{joined}

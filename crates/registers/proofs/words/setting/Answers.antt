@@ -1,6 +1,5 @@
 -- `registers::words::setting` meets its contract: its parts, one after the other.
 use mathlib.Core.List.{◌++◌}
-use borrow.Author.Rules.{rules}
 use Rattle.fields.proofs.Join.{joined}
 use Rattle.fields.proofs.Tails.{of_p, of_q, of_r, from_fraction}
 use Rattle.rules.specs.Document01.Entries.{base_entries, fraction_entries, setting_entries}

@@ -1,9 +1,6 @@
 -- The loop of `template::write::blanks`.
 use Prim.Native.Nat.{◌≤◌, ◌-◌}
-use native.Mathlib.Omega.{arith}
 use lib.ListN.{replicate}
-use borrow.Author.Rules.{rules}
-use Rattle.template.proofs.Written.{nothing, within, kept, one_more, all_more}
 use Rattle.template.specs.Write.{Wrote}
 use Rattle.template.proofs.write.blanks.Given as goal
 

@@ -1,5 +1,4 @@
 -- `template::write::column` meets its contract.
-use borrow.Author.Rules.{rules}
 use Rattle.template.proofs.Names.{named, unnamed}
 use Rattle.template.proofs.Written.{nothing, told}
 use Rattle.template.proofs.write.column.Goals as goal

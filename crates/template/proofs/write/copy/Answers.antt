@@ -1,10 +1,6 @@
 -- `template::write::copy` meets its contract.
-use Prim.Native.Nat.{◌≤◌, ◌-◌}
 use native.Mathlib.Omega.{arith}
-use lib.ListN.{length, take}
-use borrow.Author.Rules.{rules}
-use Rattle.template.proofs.Written.{nothing, within, kept, next_of, all_of}
-use Rattle.template.specs.Write.{Wrote}
+use Rattle.template.proofs.Written.{next_of}
 use Rattle.template.proofs.write.copy.Goals as goal
 
 pub loop-i-preserved : goal.loop-i-preserved

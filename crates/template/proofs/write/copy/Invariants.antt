@@ -1,9 +1,6 @@
 -- The loop of `template::write::copy`.
 use Prim.Native.Nat.{◌≤◌, ◌-◌}
-use native.Mathlib.Omega.{arith}
 use lib.ListN.{length, take}
-use borrow.Author.Rules.{rules}
-use Rattle.template.proofs.Written.{nothing, within, kept, next_of, all_of}
 use Rattle.template.specs.Write.{Wrote}
 use Rattle.template.proofs.write.copy.Given as goal
 

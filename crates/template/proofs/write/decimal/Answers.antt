@@ -1,11 +1,9 @@
 -- `template::write::decimal` meets its contract.
 use mathlib.Core.Path.{ap, sym}
 use Prim.Native.Nat.{ℕ, ◌-◌}
-use native.Mathlib.Omega.{arith}
 use lib.ListN.{replicate}
-use borrow.Author.Rules.{rules}
 use Rattle.template.proofs.Digits.{digit_count, digit_part}
-use Rattle.template.proofs.Written.{told, padded, unpadded}
+use Rattle.template.proofs.Written.{told, padded}
 use Rattle.template.specs.Write.{decimal_of}
 use Rattle.template.proofs.write.decimal.Goals as goal
 

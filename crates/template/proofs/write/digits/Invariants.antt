@@ -1,8 +1,5 @@
 -- The loop of `template::write::digits`.
-use mathlib.Core.Path.{sym, ◌∙◌}
-use native.Mathlib.Omega.{arith}
-use borrow.Author.Rules.{rules}
-use Rattle.template.proofs.Digits.{Row, begins, goes_on, ends, ends_first}
+use Rattle.template.proofs.Digits.{Row}
 use Rattle.template.proofs.write.digits.Given as goal
 
 abbrev pub invariant-loop-rest : goal.invariant-loop-rest

@@ -1,8 +1,6 @@
 -- `template::write::name` meets its contract.
-use borrow.Author.Rules.{rules}
 use Rattle.template.proofs.Names.{part, unnamed_cut, cut_named, cut_length}
 use Rattle.template.proofs.Written.{nothing, told}
-use Rattle.text.specs.Names.{before}
 use Rattle.template.proofs.write.name.Goals as goal
 
 pub returns-then-count-n : goal.returns-then-count-n

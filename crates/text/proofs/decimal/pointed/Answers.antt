@@ -2,7 +2,6 @@
 use native.Mathlib.Omega.{arith}
 use Rattle.text.proofs.Parts.{within}
 use Rattle.text.proofs.Digits.{no_point, too_many, with_point}
-use borrow.Author.Rules.{rules}
 use Rattle.text.proofs.decimal.pointed.Goals as goal
 
 pub returns-then-point-s : goal.returns-then-point-s

@@ -1,8 +1,5 @@
 -- `text::decimal::read_on` meets its contract.
-use Prim.Native.Nat.{◌-◌}
-use lib.ListN.{length}
-use Rattle.text.proofs.Digits.{Read, begins, no_number, goes_on, ends}
-use borrow.Author.Rules.{rules}
+use Rattle.text.proofs.Digits.{no_number, goes_on, ends}
 use Rattle.text.proofs.decimal.read_on.Goals as goal
 
 pub returns-then-next-ge4294967296 : goal.returns-then-next-ge4294967296

@@ -1,8 +1,7 @@
 -- The loop of `text::decimal::read_on`.
 use Prim.Native.Nat.{◌-◌}
 use lib.ListN.{length}
-use Rattle.text.proofs.Digits.{Read, begins, no_number, goes_on, ends}
-use borrow.Author.Rules.{rules}
+use Rattle.text.proofs.Digits.{Read}
 use Rattle.text.proofs.decimal.read_on.Given as goal
 
 abbrev pub invariant-loop-i : goal.invariant-loop-i

@@ -1,6 +1,5 @@
 -- `text::decimal::read_some` meets its contract.
 use Rattle.text.proofs.Digits.{no_digits, some_digits}
-use borrow.Author.Rules.{rules}
 use Rattle.text.proofs.decimal.read_some.Goals as goal
 
 pub returns-then-s-eq0 : goal.returns-then-s-eq0
