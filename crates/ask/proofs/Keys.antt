@@ -89,7 +89,7 @@ module _ (p : ℕ) (h : p ≤ 114) where
       (either Sound (eqb k 4) _ _ (one_sound 5 0 2 (number_in strategy_names v))
       (either Sound (eqb k 5) _ _ (one_sound 6 2 2 (number_in count_names v))
       (either Sound (eqb k 6) _ _ (small_sound (read_some 0 v))
-      (either Sound (eqb k 7) _ _ (one_sound 8 0 5 (number_in show_names v)) (wrong_sound (k + 1))))))))
+      (either Sound (eqb k 7) _ _ (one_sound 8 0 4 (number_in show_names v)) (wrong_sound (k + 1))))))))
 
   bare_sound : (k : ℕ) → Sound (bare_said k p)
   bare_sound k = either Sound (eqb k 1) _ _ (stores_sound 1 _ (omega arith) refl) (wrong_sound _)

@@ -38,4 +38,4 @@ count_names = table_of ("two" ∷ "three" ∷ [])
 
 -- what is shown
 unfoldable pub show_names : List ℕ
-show_names = table_of ("plan" ∷ "entries" ∷ "bank" ∷ "bytes" ∷ "registers" ∷ [])
+show_names = table_of ("plan" ∷ "entries" ∷ "bank" ∷ "bytes" ∷ [])

@@ -52,7 +52,7 @@ value_said k p v =
     (cond (eqb k 4) (one_byte 5 p 0 2 (number_in strategy_names v))
     (cond (eqb k 5) (one_byte 6 p 2 2 (number_in count_names v))
     (cond (eqb k 6) (small_said p (read_some 0 v))
-    (cond (eqb k 7) (one_byte 8 p 0 5 (number_in show_names v)) (wrong_by (k + 1))))))))
+    (cond (eqb k 7) (one_byte 8 p 0 4 (number_in show_names v)) (wrong_by (k + 1))))))))
 
 -- a key without a value
 abbrev pub bare_said : (kind place : ℕ) → Said

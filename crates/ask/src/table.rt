@@ -63,8 +63,5 @@ pub fn count_number(name: &[u8]) -> usize
 pub fn show_number(name: &[u8]) -> usize
     ensures { result ≡ number_in show_names name.now }
 {
-    text::name_number(
-        b"plan        entries     bank        bytes       registers   ",
-        name,
-    )
+    text::name_number(b"plan        entries     bank        bytes       ", name)
 }

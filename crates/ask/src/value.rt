@@ -145,7 +145,7 @@ fn value_said(kind: u32, place: usize, value: &[u8]) -> Said
         4 => return one_byte(5, place, 0, 2, table::strategy_number(value)),
         5 => return one_byte(6, place, 2, 2, table::count_number(value)),
         6 => return small_said(place, text::whole(value)),
-        7 => return one_byte(8, place, 0, 5, table::show_number(value)),
+        7 => return one_byte(8, place, 0, 4, table::show_number(value)),
         _ => return wrong_by(kind + 1),
     }
 }

@@ -1,5 +1,6 @@
 // The C functions: docs/CODES.md, The C functions, and include/clock_api.h.
 #![tactic(auto)]
+
 ghost use Rattle.std.specs.Prelude.{◌≡◌, true, eqb, length};
 ghost use Rattle.types.specs.declared.Answer.TheVariants.{Accepted};
 ghost use Rattle.rules.specs.Document01.Entries.{entries_of};

@@ -1,22 +1,11 @@
 -- An entry of two lists joined is one of the first, or one of the second at the place less the first's length.
 use mathlib.Core.Path.{◌≡◌, refl, ◌∙◌, sym}
-use mathlib.Core.Bool.{Bool, true, false}
 use mathlib.Core.List.{List, [], ◌∷◌, ◌++◌}
 use Prim.Native.Nat.{ℕ, zero, suc, ◌-◌, ◌≤◌, ◌<◌}
 use native.Mathlib.Omega.{arith}
 use lib.ListN.{length, length-append, get_or-append, get_or-eq_default}
 use Rattle.types.specs.declared.Entry.{Entry}
-use Rattle.types.specs.declared.Entry.TheVariants.{Set, Read}
-use Rattle.types.specs.declared.Hertz.{Hertz}
-use Rattle.types.specs.declared.Hertz.TheVariants.{Unset, Hz}
-use Rattle.types.specs.declared.PllOutput.{PllOutput}
-use Rattle.types.specs.declared.PllOutput.TheVariants.{Off, On}
-use Rattle.types.specs.declared.Pll.{Pll}
-use Rattle.types.specs.declared.Pll.TheVariants.{Idle, Runs}
-use Rattle.rules.specs.Document01.Fields
-use Rattle.rules.specs.Document01.Fields.{of_pll}
-use Rattle.rules.specs.Document01.Entries.{hse_entries, source_entries, output_start, start_entries}
-use Rattle.entries.specs.Counts.{hse_count, source_count, output_start_count, start_count}
+use Rattle.types.specs.declared.Entry.TheVariants.{Read}
 use Rattle.entries.specs.declared.EntryAt.{EntryAt}
 use Rattle.entries.specs.declared.EntryAt.TheVariants.{Is, Past}
 use Rattle.entries.specs.Place.{entry_at, entry_or}
@@ -60,26 +49,3 @@ module _ (s t : List Entry) (n k : ℕ) (e : n ≡ length s) where
 
   pub later_at : {r : EntryAt} → n ≤ k → r ≡ entry_at t (k - n) → r ≡ entry_at (s ++ t) k
   later_at h q = q ∙ rw e (beyond entry_at (λ e s k. refl) s t k (omega arith))
-
--- a part that has a place is there
-pub with_hse : (h : Hertz) (b : Bool) (k : ℕ) {r : Entry} → k < hse_count h → r ≡ entry_or (hse_entries (Hz 0) b) k → r ≡ entry_or (hse_entries h b) k
-with_hse Unset b k l q = absurd (omega arith)
-with_hse (Hz h) b k l q = q
-
-with_p : (j : ℕ) (o : PllOutput) (k : ℕ) {r : Entry} → k < output_start_count o → r ≡ entry_or (output_start j (On 0 0)) k → r ≡ entry_or (output_start j o) k
-with_p j Off k l q = absurd (omega arith)
-with_p j (On d h) k l q = q
-
-pub with_start : (j : ℕ) (x : Pll) (k : ℕ) {r : Entry} → k < start_count x → r ≡ entry_or (output_start j (On 0 0)) k → r ≡ entry_or (start_entries j x) k
-with_start j Idle k l q = absurd (omega arith)
-with_start j (Runs s) k l q = with_p j s.p k l q
-
--- each PLL's SRC stands at the PLL's number
-pub source_here : (t : Bool) (s k : ℕ) → k < source_count t → Set (of_pll k Fields.SRC) s ≡ entry_or (source_entries t s) k
-source_here true s zero h = refl
-source_here true s (suc zero) h = refl
-source_here true s (suc (suc zero)) h = refl
-source_here true s (suc (suc (suc k))) h = absurd (omega arith)
-source_here false s zero h = refl
-source_here false s (suc zero) h = refl
-source_here false s (suc (suc k)) h = absurd (omega arith)

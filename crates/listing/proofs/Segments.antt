@@ -7,9 +7,9 @@ use lib.ListN.{length}
 use Rattle.types.specs.declared.Entry.{Entry}
 use Rattle.types.specs.declared.PllPlan.{PllPlan}
 use Rattle.rules.specs.Document01.OnePll.{pll_from}
-use Rattle.rules.specs.Document01.Entries.{start_entries, starts, setup_entries, setups}
-use Rattle.listing.specs.Showing.{showing, show_all, far, Fits, Sets, Shows}
-use Rattle.listing.specs.Starts.{start_in, starts_in, Tells}
+use Rattle.rules.specs.Document01.Entries.{setup_entries, setups}
+use Rattle.listing.specs.Showing.{showing, show_all, far, Sets, Shows}
+use Rattle.listing.specs.Starts.{start_in, starts_in}
 use Rattle.listing.proofs.Showing.{shown_append, same_room}
 
 -- ---- the set-ups
@@ -37,16 +37,7 @@ module _ (plls : List PllPlan) (n i : ℕ) (room₀ : List ℕ) where
   next_left (suc (suc zero)) h = sym (append-nil (setup_entries 2 (pll_from plls 2)))
   next_left (suc (suc (suc k))) h = absurd (omega arith)
 
-  none_left : (k : ℕ) → 3 ≤ k → setups_from k plls ≡ []
-  none_left zero h = absurd (omega arith)
-  none_left (suc zero) h = absurd (omega arith)
-  none_left (suc (suc zero)) h = absurd (omega arith)
-  none_left (suc (suc (suc k))) h = refl
-
   module _ {at : ℕ} {room : List ℕ} {k : ℕ} (g : SettingUp plls n i room₀ at room k) where
-    pub next_fits : k < 3 → Fits n i 39 (length room₀) → Fits n at 13 (length room)
-    next_fits h f = let p = g.near in let q = f.near in record { roomy = rw g.same f.roomy; near = omega arith }
-
     pub goes_on : k < 3 → {next : ℕ} {after : List ℕ} → Sets n 13 (setup_entries k (pll_from plls k)) at room next after → SettingUp plls n i room₀ next after (k + 1)
     goes_on h s =
         let l : k + 1 ≡ suc k = omega arith in
@@ -56,12 +47,6 @@ module _ (plls : List PllPlan) (n i : ℕ) (room₀ : List ℕ) where
           near = let p = g.near in let q = (s []).near in omega arith;
           same = same_room (s []) ∙ g.same;
         }
-
-    pub all_set_up : 3 ≤ k → Sets n 39 (setups plls) i room₀ at room
-    all_set_up h reads =
-        let b = g.below in
-        let p = g.near in
-        record { shown = sym (rw (none_left k h)) ∙ g.left reads; near = omega arith }
 
 -- ---- the starts
 -- a mask of so many PLLs is below this
@@ -87,16 +72,6 @@ module _ (reads : List ℕ) (n i which : ℕ) (room₀ : List ℕ) where
   start h = record { j = 3; three = refl; below = h; rest = refl; near = omega arith; same = refl }
 
   module _ {at : ℕ} {room : List ℕ} {left k : ℕ} (g : Starting reads n i which room₀ at room left k) where
-    pub below_3 : 0 < left → k < 3
-    below_3 h = go g.j g.three g.below
-      where
-        go : (j : ℕ) → j + k ≡ 3 → left < above j → k < 3
-        go zero t b = absurd (omega arith)
-        go (suc j) t b = omega arith
-
-    pub start_fits : 0 < left → Fits n i 6 (length room₀) → Fits n at 2 (length room)
-    start_fits h f = let p = g.near in let q = f.near in let r = below_3 h in record { roomy = rw g.same f.roomy; near = omega arith }
-
     -- whichever its bit is
     pub started : 0 < left → {next : ℕ} {after : List ℕ} → Shows reads n 2 (start_in k (left % 2)) at room next after
         → Starting reads n i which room₀ next after (left / 2) (k + 1)
@@ -122,21 +97,3 @@ module _ (reads : List ℕ) (n i which : ℕ) (room₀ : List ℕ) where
         let t = g.three in
         let l : left ≡ 0 = omega arith in
         record { shown = sym (rw (l, zeros g.j k)) ∙ g.rest; near = omega arith }
-
--- three bits and the mask that they come to
-module _ (x y z : ℕ) (p : x ≤ 1) (q : y ≤ 1) (r : z ≤ 1) where
-  first : (x + 2 * y + 4 * z) % 2 ≡ x
-  first = omega arith
-
-  halved : (x + 2 * y + 4 * z) / 2 ≡ y + 2 * z
-  halved = omega arith
-
-  second : (x + 2 * y + 4 * z) / 2 % 2 ≡ y
-  second = rw halved (omega arith)
-
-  third : (x + 2 * y + 4 * z) / 2 / 2 % 2 ≡ z
-  third = let h : (y + 2 * z) / 2 ≡ z = omega arith in rw (halved, h) (omega arith)
-
-  pub mask_starts : (l : List PllPlan) → Tells x (λ k. start_entries k (pll_from l 0)) → Tells y (λ k. start_entries k (pll_from l 1)) → Tells z (λ k. start_entries k (pll_from l 2))
-      → starts_in 3 0 (x + 2 * y + 4 * z) ≡ starts l
-  mask_starts l f g h = rw (first, second, third, append-nil, f 0, g 1, h 2)

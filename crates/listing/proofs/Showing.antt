@@ -195,9 +195,6 @@ ended_stays reads n [] at room = refl
 ended_stays reads n (e ∷ es) at room = ended_stays reads n es at room
 
 module _ {reads : List ℕ} {n k : ℕ} {es : List Entry} {i : ℕ} {b : List ℕ} {r : Place} {c : List ℕ} (s : Ends reads n k es i b r c) where
-  pub ends_room : length c ≡ length b
-  ends_room = ap (λ z. length z.room) s.shown ∙ all_length reads n es (showing i b)
-
   pub ended : {l : ℕ} (fs : List Entry) → r.down ≡ true → k ≤ l → Ends reads n l (es ++ fs) i b r c
   ended fs d h =
       let e : record { at = r.at; down = true; room = c } ≡ show_all reads n es (showing i b) = ap (λ z. record { at = r.at; down = z; room = c }) (sym d) ∙ s.shown in

@@ -2,7 +2,7 @@
 use mathlib.Core.Path.{◌≡◌, refl, ◌∙◌, sym, ap}
 use mathlib.Core.Bool.{Bool, true, false, cond}
 use mathlib.Core.List.{List, [], ◌∷◌}
-use Prim.Native.Nat.{ℕ, zero, suc, ◌+◌, ◌*◌, ◌-◌, ◌/◌, ◌≤◌, ◌<◌, ◌^◌}
+use Prim.Native.Nat.{ℕ, zero, suc, ◌+◌, ◌*◌, ◌-◌, ◌/◌, ◌≤◌, ◌<◌}
 use native.Mathlib.Omega.{arith}
 use borrow.Author.Tests.{lt-ltb, ltb-true, ltb-false}
 use lib.Dec.{eqb, ltb}
@@ -19,7 +19,7 @@ use Rattle.rules.specs.Document01.Entries.{most, plan_entries, answer_entries, e
 use Rattle.rules.specs.Document01.Walk.{Stand, before, ended, shown_of, passes, is_check, stepped_of, fresh_by, fresh_of}
 use Rattle.rules.specs.Words.{entry_words, shown_words, stored_at, stand_after, ran, shown_count}
 use Rattle.rules.proofs.Document01.Run.{stored_length}
-use Rattle.listing.specs.Showing.{Showing, showing, stored_in, seen, passed_at, once, show_one, show_all, Fits, Ends}
+use Rattle.listing.specs.Showing.{Showing, showing, stored_in, seen, passed_at, once, show_one, show_all, Ends}
 use Rattle.listing.specs.Walked.{filled, last_read, end_of}
 use Rattle.listing.specs.declared.Place.{Place}
 use Rattle.listing.proofs.Showing.{not_passed, one_step, ended_stays}
@@ -132,18 +132,12 @@ module _ (n i : ℕ) (w room₀ : List ℕ) where
   fills = record { left = refl; same = refl }
 
   module _ {room : List ℕ} {k : ℕ} (g : Filling n i w room₀ room k) where
-    pub fill_fits : k < n → 9 * n ≤ length room₀ → length room₀ < 2 ^ 61 → Fits n k 1 (length room)
-    fill_fits h f l = record { roomy = rw g.same f; near = omega arith }
-
     pub fills_on : k < n → {next : List ℕ} → next ≡ stored_in n k w room → Filling n i w room₀ next (k + 1)
     unfolding stored_in
     fills_on h e =
         let l : n - k ≡ suc (n - (k + 1)) = omega arith in
         let p = rw (lt-ltb k n h) at e in
         record { left = rw p (rw l at g.left); same = rw p (stored_length room (9 * k) w ∙ g.same) }
-
-    pub all_filled : n ≤ k → room ≡ filled (n - i) i w room₀
-    all_filled h = let l : n - k ≡ 0 = omega arith in rw l at g.left
 
 -- ---- of an answer
 all_led : (a : Answer) (p : Plan) (reads room : List ℕ) (n : ℕ) (enough : last_read n ≤ length reads)

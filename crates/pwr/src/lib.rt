@@ -1,5 +1,6 @@
 // The voltage walk: pwr.rs, Pwr::freeze, one entry at a time.
 #![tactic(auto)]
+
 ghost use Rattle.std.specs.Prelude.{◌≡◌, ◌<◌, length};
 ghost use Rattle.rules.specs.Document01.Walk.{shown_of, voltage_to, voltage_stepped};
 ghost use Rattle.rules.specs.Words.{shown_count, ran};

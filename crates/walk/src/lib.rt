@@ -1,5 +1,6 @@
 // The register walk: a plan's list one entry at a time, moved on in place by the values read. rcc.rs (freeze, its polling).
 #![tactic(auto)]
+
 ghost use Rattle.std.specs.Prelude.{◌≡◌, length};
 ghost use Rattle.rules.specs.Document01.Walk.{shown_of, stepped_of, fresh_of};
 ghost use Rattle.rules.specs.Words.{shown_count, ran};

@@ -1,0 +1,7 @@
+-- `clock_api::clock_plan` meets its contract.
+use borrow.Author.Rules.{rules}
+use Rattle.clock_api.proofs.Answers.{asked_fits}
+use Rattle.clock_api.proofs.clock_plan.Goals as goal
+
+pub report_by-requires : goal.report_by-requires
+report_by-requires c = asked_fits _ _ _ c.plan-x.ensures
