@@ -1,6 +1,7 @@
 // The word that a refusal is about: the first, in an order of its own, without which the request is not refused with the same number; where no
 // single one is, the last of those that have to be taken away together.
 #![tactic(auto)]
+
 ghost use Rattle.std.specs.Prelude.{◌≡◌, ◌<◌, get_or};
 ghost use Rattle.ask.specs.Sheet.{without_key};
 ghost use Rattle.blame.specs.Blame.{order, start_for, refusal_on, blamed_of, last_blamed_of};

@@ -1,5 +1,6 @@
 // What there is to say of a refusal, of a wrong word, and of no word at all.
 #![tactic(auto)]
+
 use ask::Taken;
 use print::say;
 
@@ -38,7 +39,7 @@ pll1.p= pll1.q= pll1.r= pll2.p= ...
     say(
         b"chip=two odd1=0 odd2=1 odd3=1 scale=0 hsion=1 hsidiv=2
                   the chip, as it is by default
-show=entries show=bank show=bytes show=registers
+show=entries show=bank show=bytes
                   what else is shown
 bytes=HEX         a request as bytes
 ",
@@ -57,7 +58,7 @@ fn right(wrong: u32) {
         5 => say(b"integer or fractional is wanted\n"),
         6 => say(b"two or three is wanted\n"),
         7 => say(b"a number from 0 to 255 is wanted\n"),
-        8 => say(b"plan, entries, bank, bytes or registers is wanted\n"),
+        8 => say(b"plan, entries, bank or bytes is wanted\n"),
         9 => say(b"two hexadecimal digits for each byte are wanted,\nfor 106 bytes at most\n"),
         _ => say(b"there is no such word. The words are:\n\n"),
     }

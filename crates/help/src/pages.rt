@@ -272,8 +272,8 @@ Who can mend it: nobody has to; no request gives it
 A request that gives it: none. It is proved that N is 75 to 420 in the
 medium VCO range and 8 to 280 in the wide one, for every request and chip:
 
-    crates/rules/proofs/Document01/Multiplier.antt     (pll_n)
-    crates/rules/proofs/Document01/Refusals.antt       (typed_numbers_is)
+    crates/rules/proofs/Document01/Multiplier.antt     (pll-n)
+    crates/rules/proofs/Document01/Refusals.antt       (typed-numbers)
 
 What to change: nothing in the request. A program that shows 12 has it from
 elsewhere; the firmware engineer looks at the program, and at which library is

@@ -1,5 +1,6 @@
 // A plan's page: every reported clock, the PLLs, the wait states; then what else is asked for.
 #![tactic(auto)]
+
 ghost use Rattle.std.specs.Prelude.{◌<◌};
 
 use types::{Hertz, Planned, Pll};
@@ -66,7 +67,7 @@ pub fn plan(x: Planned, bank: [u32; 82]) {
     );
 }
 
-// The entries, the bank, the request's bytes or the PLLs' registers, by the sheet's byte behind the chip.
+// The entries, the bank or the request's bytes, by the sheet's byte behind the chip.
 pub fn also(x: Planned, bank: [u32; 82], sheet: &[u8]) {
     list::show(x, bank, sheet);
 }

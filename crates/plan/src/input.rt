@@ -1,6 +1,10 @@
 // The words of the command line: arguments one after the other, and for @FILE what the file has.
 ghost use Rattle.std.specs.Prelude.{◌≤◌, length};
 
+use std::env::FillError;
+use std::fs::File;
+use std::io::Read;
+use std::rt::{Env, Files};
 use text::Number;
 
 // A byte at a place, where there is room for it; the place behind it.
@@ -21,36 +25,55 @@ fn append(words: &mut [u8], at: usize, s: &[u8]) -> usize {
     push(words, to, b' ')
 }
 
+// Reads until there is no more room, the file ends or a read fails; how many bytes were read.
+fn read_full(file: &mut impl Read, room: &mut [u8]) -> usize
+    ensures { result ≤ length room.new }
+{
+    let mut done = 0;
+    while done < room.len() {
+        let n = file.read(&mut room[done..]).unwrap_or(0);
+        if n == 0 {
+            break;
+        }
+        done += n;
+    }
+    done
+}
+
 // What a file has; one that cannot be read stands as a wrong word.
-fn append_file(words: &mut [u8], at: usize, word: &[u8]) -> usize
+fn append_file(rt: &impl Files, words: &mut [u8], at: usize, word: &[u8]) -> usize
     requires { 1 ≤ length word.now }
 {
-    let fd = os::open_read(&word[1..]);
-    if fd < 0 {
+    let Ok(path) = std::str::from_utf8(&word[1..]) else {
         return append(words, at, word);
-    }
+    };
+    let Ok(mut file) = File::open(rt, path) else {
+        return append(words, at, word);
+    };
     let mut room = io::buffer();
-    let n = io::read_full(fd, &mut room);
-    libc::close(fd);
+    let n = read_full(&mut file, &mut room);
     append(words, at, &room[..n])
 }
 
-fn append_argument(words: &mut [u8], at: usize, i: usize) -> usize {
-    let mut word = io::buffer();
-    let n = os::arg(i, &mut word);
-    if 1 < n {
+fn append_argument(rt: &impl Files, words: &mut [u8], at: usize, word: &[u8]) -> usize {
+    if 1 < word.len() {
         if word[0] == b'@' {
-            return append_file(words, at, &word[..n]);
+            return append_file(rt, words, at, word);
         }
     }
-    append(words, at, &word[..n])
+    append(words, at, word)
 }
 
-// All arguments; how many bytes they take.
-pub fn gather(words: &mut [u8]) -> usize {
+// All arguments; how many bytes they take. One of more than 4096 bytes counts as an empty one.
+pub fn gather(rt: &(impl Env + Files), words: &mut [u8]) -> usize {
     let mut at = 0;
-    for i in 1..os::arg_count() {
-        at = append_argument(words, at, i);
+    for i in 1..usize::MAX {
+        let mut word = io::buffer();
+        match rt.arg(i, &mut word) {
+            Ok(n) => at = append_argument(rt, words, at, &word[..n]),
+            Err(FillError::TooLong) => at = append(words, at, b""),
+            Err(FillError::NotPresent) => break,
+        }
     }
     at
 }

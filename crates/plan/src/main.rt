@@ -1,12 +1,13 @@
 // The planner from the command line: a request in words, planned and shown. README.md; docs/CODES.md, A request in words.
 #![tactic(auto)]
+
 mod answer;
 mod input;
 mod refused;
 
-fn main() {
+fn main(rt: HostRuntime) {
     let mut words = io::buffer();
-    let n = input::gather(&mut words);
+    let n = input::gather(&rt, &mut words);
     if n < 4096 {
         run(&words[..n]);
         return;

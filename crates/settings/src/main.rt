@@ -1,5 +1,6 @@
 // The bench settings of document 01: what it states of each, beside what the planner finds on a chip with two PLLs and on one with three.
 #![tactic(auto)]
+
 mod compare;
 mod found;
 mod table;

@@ -1,20 +1,23 @@
 // The Rust's answers to a stored sample of requests, replayed: each request through the planner, and every clock, divisor and entry, or the
 // refusal's number, against what the file has. docs/VECTORS.md.
 #![tactic(auto)]
+
 mod input;
 mod record;
 mod tally;
 
+use std::fs::File;
+
 // Record after record, as many as the file says.
-fn main() {
-    let fd = os::open_read(b"answers.bin");
+fn main(rt: HostRuntime) -> std::io::Result<()> {
+    let mut file = File::open(&rt, "answers.bin")?;
     let mut t = [0u64; 9];
-    let count = input::u32le(fd);
+    let count = input::u32le(&mut file)?;
     for k in 0..count {
-        record::replay(fd, k, &mut t);
+        record::replay(&mut file, k, &mut t)?;
     }
     t[7] = count as u64;
-    t[8] = input::goes_on(fd) as u64;
+    t[8] = input::goes_on(&mut file)? as u64;
     tally::show(&t);
-    libc::close(fd);
+    Ok(())
 }

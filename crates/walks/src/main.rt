@@ -1,6 +1,7 @@
 // Walks on a simulated chip: the register walks of bench settings A and C, the voltage walk from each scale to each, and the reset reason of
 // every set of flags.
 #![tactic(auto)]
+
 mod ask;
 mod chip;
 mod entry;
