@@ -9,13 +9,12 @@ use lib.ListN.{length}
 use borrow.Author.Tests.{eq-eqb, ne_eqb}
 use Rattle.types.specs.declared.Chip.{Chip}
 use Rattle.types.specs.declared.Planned.{Planned}
-use Rattle.types.specs.declared.Answer.{Answer}
 use Rattle.rules.specs.Document01.Chip as Chip
 use Rattle.rules.specs.Document01.Plan.{request_of, plan_of, bank_plan_of}
 use Rattle.rules.specs.Document01.Entries.{entries_of}
 use Rattle.rules.specs.Document01.Bank.{apply_all}
 use Rattle.laws.proofs.Tests.{by_test}
-use Rattle.chip_bytes.specs.Calls.{chip_of, chip_from, checked_chip, outside, asked_of, bank_asked}
+use Rattle.chip_bytes.specs.Calls.{chip_of, chip_from, checked_chip, asked_of, bank_asked}
 
 -- ---- the chip that stands for what does not fit
 module _ (chip : List ℕ) (fits : Bool) where

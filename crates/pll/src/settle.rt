@@ -92,6 +92,9 @@ fn multiply(strategy: Strategy, reference: u32, n: u32, target: u32, output: u32
     }
 }
 
+// The largest divider of P.
+const P_MOST: u32 = 128;
+
 // Refusals 14 and 15, and the settings.
 fn place(odd: bool, request: PllRequest, c: Chosen, fraction: Fraction) -> PllAnswer
     requires { Placed request c }
@@ -102,7 +105,7 @@ fn place(odd: bool, request: PllRequest, c: Chosen, fraction: Fraction) -> PllAn
     let r = request.r;
     let first = output_of(c.target, c.vco, p);
     let d = divider_p(first);
-    if 128 < d {
+    if P_MOST < d {
         return PllAnswer::Refused(Refusal::PDividerAbove128);
     }
     if !odd {

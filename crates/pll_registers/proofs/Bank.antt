@@ -15,7 +15,7 @@ use Rattle.types.specs.declared.Pll.{Pll}
 use Rattle.types.specs.declared.Pll.TheVariants.{Idle, Runs}
 use Rattle.types.specs.declared.Plan.{Plan}
 use Rattle.rules.specs.Document01.Entries.{setup_entries, pll_in}
-use Rattle.rules.specs.Manual.Tree.{Output, P, Q, R, word}
+use Rattle.rules.specs.Manual.Tree.{P, Q, R, word}
 use Rattle.rules.proofs.Document01.Last.{val_all}
 use Rattle.claims.specs.Demands.Legal.{LegalOutput, LegalPll}
 use Rattle.claims.proofs.Readings.Own.{divider_word, enable_bit, fracen_bit, fracn_word, own_vcosel, own_rge, own_m, own_n, own_fracn, own_fracen, own_divider, own_enable}

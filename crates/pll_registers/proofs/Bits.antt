@@ -1,7 +1,7 @@
 -- What is packed is read back: every field that fits its bits stands in the bits that document 02, Item 1, gives it, and in no other.
 use mathlib.Core.Path.{◌≡◌, sym, ◌∙◌}
 use mathlib.Core.Bool.{Bool, true, false}
-use Prim.Native.Nat.{ℕ, ◌+◌, ◌-◌, ◌*◌, ◌/◌, ◌%◌, ◌^◌, ◌<◌}
+use Prim.Native.Nat.{ℕ, ◌+◌, ◌-◌, ◌*◌, ◌/◌, ◌%◌, ◌<◌}
 use native.Mathlib.Nat.{mod-eq_of_lt}
 use native.Mathlib.Omega.{arith}
 use lib.Dec.{ltb}
@@ -9,7 +9,7 @@ use Rattle.rules.specs.Document01.Entries.{bit}
 use Rattle.rules.specs.Document01.Fields
 use Rattle.pll_registers.specs.declared.PllFields.{PllFields}
 use Rattle.pll_registers.specs.Registers.{enabled, cfgr_of, divr_of, fracr_of}
-use Rattle.pll_registers.specs.Stated.{bits, Hold, Fit}
+use Rattle.pll_registers.specs.Stated.{Hold, Fit}
 
 -- ---- in numbers
 -- the fields of CFGR fit: source, range, FRACEN, VCOSEL, M, the enables

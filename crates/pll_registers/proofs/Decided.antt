@@ -3,7 +3,6 @@
 use mathlib.Core.Path.{◌≡◌, sym, ◌∙◌, ap₂}
 use Prim.Native.Nat.{ℕ, ◌+◌, ◌*◌, ◌/◌, ◌%◌, ◌^◌, ◌<◌}
 use native.Mathlib.Nat.{div-one, div-eq_of_lt}
-use native.Mathlib.Omega.{arith}
 use lib.Pow.{split, shr-shr}
 use Rattle.pll_registers.specs.Stated.{Hold}
 

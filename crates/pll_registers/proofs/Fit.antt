@@ -1,5 +1,4 @@
 -- Every field that the rules choose fits its bits: a mask takes nothing away (document 02, Item 1). By what demand 2 says of a plan.
-use mathlib.Core.Path.{◌≡◌}
 use mathlib.Core.Bool.{Bool}
 use Prim.Native.Nat.{ℕ, zero, suc, ◌-◌, ◌≤◌, ◌<◌}
 use native.Mathlib.Omega.{arith}

@@ -1,6 +1,6 @@
 -- A shift and a mask place a value: what is put above the bits that are there, and where it ends.
 use mathlib.Core.Path.{◌≡◌, sym, ap, ◌∙◌, subst}
-use Prim.Native.Nat.{ℕ, ◌+◌, ◌-◌, ◌*◌, ◌%◌, ◌^◌, ◌≤◌, ◌<◌}
+use Prim.Native.Nat.{ℕ, ◌+◌, ◌-◌, ◌*◌, ◌%◌, ◌^◌, ◌<◌}
 use native.Mathlib.Nat.{add_comm, one-mul, mod-lt}
 use native.Mathlib.Omega.{arith}
 use lib.Arith.{digits_lt}

@@ -2,7 +2,7 @@
 use mathlib.Core.Path.{◌≡◌, refl, sym, ◌∙◌, ap, subst}
 use mathlib.Core.Bool.{Bool, true, false, cond}
 use mathlib.Core.List.{List, [], ◌∷◌, ◌++◌}
-use Prim.Native.Nat.{ℕ, zero, suc, ◌+◌, ◌-◌, ◌*◌, ◌/◌, ◌%◌, ◌^◌, ◌≤◌, ◌<◌}
+use Prim.Native.Nat.{ℕ, zero, suc, ◌+◌, ◌*◌, ◌≤◌, ◌<◌}
 use native.Mathlib.Nat.{mod-eq_of_lt}
 use native.Mathlib.Omega.{arith}
 use lib.ListN.{length, get_or}
@@ -29,7 +29,7 @@ use Rattle.pll_registers.specs.declared.PllFields.{PllFields}
 use Rattle.pll_registers.specs.Fields.{fields_of}
 use Rattle.pll_registers.specs.Registers.{cfgr_of, divr_of, fracr_of, packed}
 use Rattle.pll_registers.specs.Calls.{registers_at, plan_registers}
-use Rattle.pll_registers.specs.Stated.{bits, Hold, Fit, AsBank}
+use Rattle.pll_registers.specs.Stated.{Hold, Fit}
 use Rattle.pll_registers.proofs.Bits.{hold}
 use Rattle.pll_registers.proofs.Fit.{src_fits, pll_fits}
 use Rattle.pll_registers.proofs.Bank.{are}

@@ -1,14 +1,13 @@
 -- Bench settings A, B and C of document 01: the registers of their PLLs, in numbers, on a chip with two PLLs; and what is left of nine words.
 use mathlib.Core.Path.{◌≡◌, refl}
 use mathlib.Core.List.{List, [], ◌∷◌}
-use mathlib.Core.Bool.{false, true}
+use mathlib.Core.Bool.{false}
 use Prim.Native.Nat.{ℕ}
 use lib.ListN.{replicate}
 use Rattle.types.specs.declared.Hertz.TheVariants.{Unset, Hz}
 use Rattle.types.specs.declared.Strategy.TheVariants.{Fractional}
 use Rattle.types.specs.declared.Request.{Request}
 use Rattle.rules.specs.Document01.Bytes.{request_bytes}
-use Rattle.rules.specs.Document01.Plan.{plan_of}
 use Rattle.rules.proofs.Computes.{by_rules}
 use Rattle.rules.proofs.Samples.{pll, on_hsi, system, chip}
 use Rattle.pll_registers.specs.Registers.{cfgr_of, divr_of, fracr_of}

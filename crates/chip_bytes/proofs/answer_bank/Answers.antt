@@ -1,6 +1,5 @@
 -- `chip_bytes::answer_bank` meets its contract.
 use mathlib.Core.Bool.{true}
-use borrow.Author.Rules.{rules}
 use Rattle.chip_bytes.proofs.Answers.{bank_told}
 use Rattle.chip_bytes.proofs.answer_bank.Goals as goal
 

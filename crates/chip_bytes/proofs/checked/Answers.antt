@@ -1,7 +1,5 @@
 -- `chip_bytes::checked` meets its contract.
 use mathlib.Core.Path.{◌∙◌}
-use borrow.Author.Rules.{rules}
-use borrow.Author.Tests.{not-true, not-false}
 use Rattle.chip_bytes.proofs.Answers.{no_chip, no_fit, there}
 use Rattle.chip_bytes.proofs.checked.Goals as goal
 

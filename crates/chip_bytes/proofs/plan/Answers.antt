@@ -1,6 +1,5 @@
 -- `chip_bytes::plan` meets its contract.
 use mathlib.Core.Path.{◌∙◌}
-use borrow.Author.Rules.{rules}
 use Rattle.chip_bytes.proofs.Answers.{as_asked}
 use Rattle.chip_bytes.proofs.plan.Goals as goal
 

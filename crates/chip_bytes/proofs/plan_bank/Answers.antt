@@ -1,5 +1,4 @@
 -- `chip_bytes::plan_bank` meets its contract.
-use borrow.Author.Rules.{rules}
 use Rattle.chip_bytes.proofs.Answers.{bank_done}
 use Rattle.chip_bytes.proofs.plan_bank.Goals as goal
 

@@ -1,5 +1,4 @@
 -- `clock_api::clock_plan` meets its contract.
-use borrow.Author.Rules.{rules}
 use Rattle.clock_api.proofs.Answers.{asked_fits}
 use Rattle.clock_api.proofs.clock_plan.Goals as goal
 

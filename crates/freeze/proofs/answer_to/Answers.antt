@@ -1,9 +1,6 @@
 -- `freeze::answer_to` meets its contract.
 use mathlib.Core.Path.{sym, ◌∙◌}
-use mathlib.Core.Bool.{◌||◌}
-use borrow.Author.Tests.{not-true, not-false}
 use Rattle.freeze.proofs.Steps.{third_asked, third_empty}
-use borrow.Author.Rules.{rules}
 use Rattle.freeze.proofs.answer_to.Goals as goal
 
 pub returns-then-not-fits : goal.returns-then-not-fits

@@ -1,8 +1,6 @@
 -- `freeze::chosen` meets its contract.
-use mathlib.Core.Path.{◌≡◌, ◌∙◌}
-use Rattle.types.specs.declared.Answer.TheVariants.{Accepted}
-use Rattle.freeze.proofs.Steps.{Settled, by_refusal, settled}
-use borrow.Author.Rules.{rules}
+use mathlib.Core.Path.{◌∙◌}
+use Rattle.freeze.proofs.Steps.{by_refusal, settled}
 use Rattle.freeze.proofs.chosen.Goals as goal
 
 pub returns-in-Refused : goal.returns-in-Refused

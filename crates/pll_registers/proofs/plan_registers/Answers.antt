@@ -1,6 +1,5 @@
 -- `pll_registers::plan_registers` meets its contract.
 use Rattle.pll_registers.proofs.Answers.{other_length, stored, kept}
-use borrow.Author.Rules.{rules}
 use Rattle.pll_registers.proofs.plan_registers.Goals as goal
 
 pub returns-then-words-ne9-clause-answer : goal.returns-then-words-ne9-clause-answer

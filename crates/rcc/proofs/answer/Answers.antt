@@ -1,5 +1,4 @@
 -- `rcc::answer` meets its contract.
-use borrow.Author.Rules.{rules}
 use borrow.Author.Tests.{not-true, not-false}
 use Rattle.rcc.proofs.Read.{unread, no_room, typed_answer}
 use Rattle.rcc.proofs.answer.Goals as goal

@@ -1,6 +1,5 @@
 -- `rcc::plan` meets its contract.
 use mathlib.Core.Path.{◌∙◌}
-use borrow.Author.Rules.{rules}
 use Rattle.claims.proofs.Demands.{with_bank}
 use Rattle.rcc.proofs.Promised.{promised}
 use Rattle.rcc.proofs.plan.Goals as goal

@@ -1,6 +1,5 @@
 -- `rcc::plan_bank` meets its contract.
 use mathlib.Core.Path.{◌∙◌}
-use borrow.Author.Rules.{rules}
 use lib.ListN.{length}
 use Rattle.rcc.proofs.Read.{any_other, keeps_other}
 use Rattle.rcc.proofs.Promised.{bank_promised}

@@ -1,10 +1,5 @@
 -- `clock_api::both::clock_plan_bank` meets its contract.
-use mathlib.Core.Path.{ap, ◌∙◌}
-use Rattle.types.specs.declared.Planned.{Planned}
-use Rattle.rules.specs.Document01.Refusals.{code_of}
-use Rattle.clock_api.specs.Calls.{report_by}
 use Rattle.clock_api.proofs.Answers.{bank_fits}
-use borrow.Author.Rules.{rules}
 use Rattle.clock_api.proofs.both.clock_plan_bank.Goals as goal
 
 pub report_by-requires : goal.report_by-requires

@@ -2,7 +2,6 @@
 use borrow.Author.Tests.{not-true, not-false}
 use Rattle.request.specs.Request.{part_of, part_read}
 use Rattle.clock_api.proofs.OnePll.{no_room, no_code, no_part_is, answered}
-use borrow.Author.Rules.{rules}
 use Rattle.clock_api.proofs.one_pll.clock_pll.Goals as goal
 
 pub returns-then-out-ne18-clause-code : goal.returns-then-out-ne18-clause-code

@@ -1,6 +1,5 @@
 -- `freeze::assemble::accepted` meets its contract.
 use Rattle.rules.specs.Document01.Plan.{plan_with}
-use borrow.Author.Rules.{rules}
 use Rattle.freeze.proofs.assemble.accepted.Goals as goal
 
 pub returns : goal.returns

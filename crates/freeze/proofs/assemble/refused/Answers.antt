@@ -1,6 +1,5 @@
 -- `freeze::assemble::refused` meets its contract.
 use Rattle.rules.specs.Document01.Plan.{blank_plan}
-use borrow.Author.Rules.{rules}
 use Rattle.freeze.proofs.assemble.refused.Goals as goal
 
 pub returns : goal.returns

@@ -1,7 +1,6 @@
 -- `pll_registers::pack::cfgr` meets its contract.
 use native.Mathlib.Nat.{zero-add}
 use Rattle.pll_registers.specs.Registers.{placed, cfgr_of}
-use borrow.Author.Rules.{rules}
 use Rattle.pll_registers.proofs.pack.cfgr.Goals as goal
 
 pub returns : goal.returns

@@ -2,7 +2,6 @@
 use Prim.Native.Nat.{◌-◌}
 use native.Mathlib.Nat.{zero-add}
 use Rattle.pll_registers.specs.Registers.{placed, divr_of}
-use borrow.Author.Rules.{rules}
 use Rattle.pll_registers.proofs.pack.divr.Goals as goal
 
 pub returns : goal.returns

@@ -2,7 +2,6 @@
 use mathlib.Core.Path.{◌∙◌}
 use native.Mathlib.Nat.{zero-add}
 use Rattle.pll_registers.specs.Registers.{placed, fracr_of}
-use borrow.Author.Rules.{rules}
 use Rattle.pll_registers.proofs.pack.fracr.Goals as goal
 
 pub returns : goal.returns

@@ -1,10 +1,7 @@
 -- `pll_registers::pack::put` meets its contract.
 use mathlib.Core.Path.{sym, subst}
 use Prim.Native.Nat.{ℕ, ◌+◌, ◌^◌, ◌<◌}
-use native.Mathlib.Omega.{arith}
-use lib.Pow.{pow_pos}
-use Rattle.pll_registers.proofs.Placing.{mask, puts, ends}
-use borrow.Author.Rules.{rules}
+use Rattle.pll_registers.proofs.Placing.{puts, ends}
 use Rattle.pll_registers.proofs.pack.put.Goals as goal
 
 pub returns-clause-bits : goal.returns-clause-bits
