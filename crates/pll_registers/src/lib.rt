@@ -77,13 +77,16 @@ pub fn store_registers(p: Plan, out: &mut [u32])
     }
 }
 
+// Words lent for the registers: three for each of three PLLs.
+const WORDS: usize = 9;
+
 // The words of a request, beside a chip's numbers: nine words are lent, of which a chip with two PLLs keeps the last three. A refusal keeps all.
 pub fn plan_registers(request: &[u8], chip: Chip, words: &mut [u32]) -> Answer
     ensures answer { result ≡ (registers_asked request.now chip (length words.old)).answer }
     ensures words { words.new ≡ registers_by (registers_asked request.now chip (length words.old)) words.old }
     ensures bank { AsBank request.now chip result words.new }
 {
-    if words.len() != 9 {
+    if words.len() != WORDS {
         return Answer::Refused(Refusal::OutsideCodes);
     }
     let x = rcc::plan(request, chip);
