@@ -11,6 +11,7 @@ declares them. A name whose new spelling is already declared and a word of a fil
 import collections
 import os
 import re
+import subprocess
 import sys
 
 WORD = re.compile(r"[^\s(){}.;,@\"«»|\[\]`]+")
@@ -53,8 +54,8 @@ def library(kit):
 
 
 def main(argv):
-    kit = os.path.join(os.path.dirname(os.path.realpath("/usr/local/bin/rt")), "..")
-    kit = next((p for p in (os.environ.get("RATTLE_KIT", ""), "/opt/rattle/rattle") if os.path.isdir(p)), kit)
+    said = subprocess.run(["rt", "doc"], stdout=subprocess.PIPE, text=True, check=True).stdout
+    kit = os.path.join(os.path.dirname(said.strip()), "rattle")
     theirs = library(kit)
     declared = collections.defaultdict(set)
     goals = collections.defaultdict(set)
