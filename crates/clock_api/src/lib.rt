@@ -17,7 +17,7 @@ const LIST: usize = 1 + 9 * 69;
 
 pub mod both;
 pub mod one_pll;
-pub mod registers;
+pub mod plls;
 pub mod walks;
 
 // A plan's clocks, in 55 words.

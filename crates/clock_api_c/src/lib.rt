@@ -71,7 +71,7 @@ pub extern "C" fn clock_pll_registers(request: &[u8], chip: &[u8], words: &mut [
     ensures code { result ≡ code_of (registers_asked request.now (checked_chip chip.now true) (length words.old)).answer }
     ensures words { words.new ≡ registers_by (registers_asked request.now (checked_chip chip.now true) (length words.old)) words.old }
 {
-    clock_api::registers::clock_pll_registers(request, chip, words)
+    clock_api::plls::clock_pll_registers(request, chip, words)
 }
 
 // What the register walk of a request shows, nine words each; a refused request shows its refusal. The answer counts them.
