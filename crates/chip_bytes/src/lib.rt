@@ -37,7 +37,8 @@ pub fn checked(chip: &[u8], fits: bool) -> Chip
     if chip.len() != 7 {
         return chip_of(0, 0, 0, 0, 0, 0, 0);
     }
-    if !fits {
+    let other = !fits;
+    if other {
         return chip_of(0, 0, 0, 0, 0, 0, 0);
     }
     chip_from(chip)

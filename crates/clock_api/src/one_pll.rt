@@ -6,12 +6,15 @@ ghost use Rattle.clock_api.specs.OnePll.{pll_for, pll_room};
 
 use types::PllAnswer;
 
+// Words of a PLL's settings.
+const WORDS: usize = 18;
+
 // What is chosen for one PLL, in 18 words. The part is its 16 bytes of a request; odd is 1 where P may divide by an odd number.
 pub fn clock_pll(odd: u32, source: u32, part: &[u8], out: &mut [u32]) -> u32
     ensures code { result ≡ result_code (pll_for odd source (part_read (part_of part.now)) (length out.old)) }
     ensures out { out.new ≡ pll_room (pll_for odd source (part_read (part_of part.now)) (length out.old)) out.old }
 {
-    if out.len() != 18 {
+    if out.len() != WORDS {
         return 1;
     }
     if 1 < odd {

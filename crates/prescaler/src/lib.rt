@@ -99,6 +99,9 @@ pub fn timer(hclk: u32, ppre: u32) -> u32
     }
 }
 
+// The largest divisor of a clock output.
+const MCO_MOST: u32 = 15;
+
 // A clock output from the clock of its source, with refusals 22 and 23.
 pub fn mco(clock: u32, requested: Hertz) -> McoAnswer
     ensures { mco_result result ≡ mco_of clock requested }
@@ -116,7 +119,7 @@ pub fn mco(clock: u32, requested: Hertz) -> McoAnswer
             if pre < 1 {
                 return McoAnswer::Refused(Refusal::McoRatio);
             }
-            if pre > 15 {
+            if pre > MCO_MOST {
                 return McoAnswer::Refused(Refusal::McoRatio);
             }
             let out = clock / pre;

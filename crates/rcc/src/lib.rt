@@ -50,7 +50,8 @@ pub fn plan_bank(request: &[u8], chip: Chip, bank: &mut [u32]) -> Planned
     ensures readings { BankReadTwice request.now chip result bank.old bank.new }
     ensures order { AsRows (bank_rows request.now chip (length bank.old)) result.answer }
 {
-    if bank.len() != 82 {
+    let whole = bank.len() == 82;
+    if !whole {
         return answer(request, chip, false);
     }
     let planned = answer(request, chip, true);

@@ -102,11 +102,14 @@ pub struct PartRead {
     pub part: PllRequest,
 }
 
+// Bytes of a PLL's part.
+const PART: usize = 16;
+
 // The part that 16 bytes stand for, or refusal 1.
 pub fn read_part(bytes: &[u8]) -> PartRead
     ensures { result ≡ part_read (part_of bytes.now) }
 {
-    if bytes.len() != 16 {
+    if bytes.len() != PART {
         return none_read();
     }
     if !formed::pll_formed(bytes, 0) {

@@ -48,15 +48,20 @@ fn write_back_of(word: u32) -> u32
     word + 8_388_608
 }
 
+// PLLs of the chips that each manual is for.
+const RM0492: u32 = 2;
+
+const RM0481: u32 = 3;
+
 // A word of RCC_RSR on a chip with so many PLLs; on three the reason is always unknown.
 pub fn reset_reason(plls: u32, word: u32) -> ResetAnswer
     ensures { reset_result result ≡ reset_of plls word }
 {
     let back = write_back_of(word);
-    if plls == 2 {
+    if plls == RM0492 {
         return ResetAnswer::Reason(reason_of(word), back);
     }
-    if plls == 3 {
+    if plls == RM0481 {
         return ResetAnswer::Reason(ResetReason::Unknown(word), back);
     }
     ResetAnswer::Refused(Refusal::OutsideCodes)

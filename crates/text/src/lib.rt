@@ -19,7 +19,8 @@ pub fn find(s: &[u8], b: u8) -> usize
 {
     let mut i = 0;
     while i < s.len() {
-        if s[i] == b {
+        let here = s[i];
+        if here == b {
             return i;
         }
         i += 1;

@@ -14,9 +14,9 @@ returns-then-pre-lt1 c =
     let r = c.ratio-pre.result in
     rw (c.in-Hz.is, ne_eqb _ _ c.if-h-eq0.false, ← c.ratio-pre.ensures, lt-leb 1 r (omega arith))
 
-pub returns-then-pre-gt15 : goal.returns-then-pre-gt15
+pub returns-then-pre-gt-MCO_MOST : goal.returns-then-pre-gt-MCO_MOST
 unfolding mco_of
-returns-then-pre-gt15 c =
+returns-then-pre-gt-MCO_MOST c =
     let r = c.ratio-pre.result in
     rw (c.in-Hz.is, ne_eqb _ _ c.if-h-eq0.false, ← c.ratio-pre.ensures, le-leb 1 r (omega arith), lt-leb r 15 (omega arith))
 
@@ -24,8 +24,8 @@ pub returns-in-Unset : goal.returns-in-Unset
 unfolding mco_of
 returns-in-Unset c = rw c.in-Unset.is
 
-pub returns-else-pre-gt15 : goal.returns-else-pre-gt15
+pub returns-else-pre-gt-MCO_MOST : goal.returns-else-pre-gt-MCO_MOST
 unfolding mco_of
-returns-else-pre-gt15 c =
+returns-else-pre-gt-MCO_MOST c =
     let r = c.ratio-pre.result in
     rw (c.in-Hz.is, ne_eqb _ _ c.if-h-eq0.false, ← c.ratio-pre.ensures, le-leb 1 r (omega arith), le-leb r 15 (omega arith))
