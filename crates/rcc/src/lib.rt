@@ -39,6 +39,9 @@ pub fn plan(request: &[u8], chip: Chip) -> Planned
     answer(request, chip, true)
 }
 
+// Words of a bank.
+const BANK: usize = 82;
+
 // The bank call: the same, with the whole list applied to a lent bank of 82 words. It polls nothing.
 pub fn plan_bank(request: &[u8], chip: Chip, bank: &mut [u32]) -> Planned
     ensures rules { result ≡ bank_plan_of request.now chip (length bank.old) }
@@ -50,8 +53,8 @@ pub fn plan_bank(request: &[u8], chip: Chip, bank: &mut [u32]) -> Planned
     ensures readings { BankReadTwice request.now chip result bank.old bank.new }
     ensures order { AsRows (bank_rows request.now chip (length bank.old)) result.answer }
 {
-    let whole = bank.len() == 82;
-    if !whole {
+    let words = bank.len();
+    if words != BANK {
         return answer(request, chip, false);
     }
     let planned = answer(request, chip, true);
