@@ -1,4 +1,3 @@
+pub mod Keys
 pub mod Taking
 pub mod Pairs
-pub mod Keys
-pub mod Sheets

@@ -1,20 +1,19 @@
-// Where the words of a text end.
+// The blanks between words.
 ghost use Rattle.std.specs.Prelude.{◌≡◌};
-ghost use Rattle.ask.specs.All.{end_of};
+ghost use Rattle.ask.specs.All.{is_blank, filled};
 
 // A blank, and all before it, parts words.
 const BLANK: u8 = 32;
 
-// The first place from `from` on that is a blank.
-pub fn end_of(words: &[u8], from: usize) -> usize
-    ensures { result ≡ end_of words.now from }
+pub fn is_blank(b: u8) -> bool
+    ensures { result ≡ is_blank b }
 {
-    let mut i = from;
-    while i < words.len() {
-        if words[i] <= BLANK {
-            return i;
-        }
-        i += 1;
-    }
-    i
+    b <= BLANK
+}
+
+// How many bytes at the start are none.
+pub fn filled(text: &[u8]) -> usize
+    ensures { result ≡ filled text.now }
+{
+    text.iter().take_while(|b| !is_blank(**b)).count()
 }

@@ -1,143 +1,122 @@
 // A request and a chip in words, as docs/CODES.md has them, and the bytes that they stand for.
 #![tactic(auto)]
 
-ghost use Rattle.std.specs.Prelude.{◌≡◌, ◌+◌, ◌≤◌, length, set, take};
-ghost use Rattle.std.proofs.lemmas.List.Edits.{sets};
-ghost use Rattle.text.specs.Names.{before};
-ghost use Rattle.ask.specs.Words.{key_of};
-ghost use Rattle.ask.specs.Sheet.{is_bytes, wrong_of, sheet_with, width_of, without_key};
+ghost use Rattle.std.specs.Prelude.{◌≡◌};
+ghost use Rattle.ask.specs.Sheet.{wrong_of, sheet_with, width_of, without_key};
 ghost use Rattle.ask.specs.All.{taken_by, sheet_by};
+
+pub use table::KEYS;
 
 mod all;
 mod hex;
 mod table;
 mod value;
 
-// Bytes for a place of a sheet, or what is wrong with a word.
+// The kinds of value that keys take: hertz, none, a source of MCO1 or MCO2, a strategy, a PLL count, a number below 256, what is shown, and
+// hexadecimal digits.
+#[derive(Clone, Copy)]
+pub enum Kind {
+    Hertz,
+    Nothing,
+    Mco1,
+    Mco2,
+    Strategy,
+    Count,
+    Small,
+    Shown,
+    Digits,
+}
+
+// What a key takes, and where its bytes stand on a sheet.
+#[derive(Clone, Copy)]
+pub struct Key {
+    pub kind: Kind,
+    pub place: usize,
+}
+
+// What is wrong with a word: its value, by the kind that would be right, or its key.
+#[derive(Clone, Copy)]
+pub enum Wrong {
+    Value(Kind),
+    NoSuchKey,
+}
+
+// Bytes for a place of a sheet: the first `count` of them.
 #[derive(Clone, Copy)]
 pub struct Said {
-    pub wrong: u32,
     pub place: usize,
     pub count: usize,
     pub bytes: [u8; 6],
 }
 
-// What became of the words of a text: what is wrong with the first wrong one, and where it stands; 0 for none.
+// A wrong word: what is wrong with it, and where it stands in a text.
 #[derive(Clone, Copy)]
-pub struct Taken {
-    pub wrong: u32,
+pub struct WrongWord {
+    pub wrong: Wrong,
     pub from: usize,
     pub to: usize,
 }
 
-// A byte of a sheet; nothing past its end.
-fn put(sheet: &mut [u8], at: usize, b: u8)
-    ensures { sheet.new ≡ set sheet.old at b }
-{
-    if at < sheet.len() {
-        sheet[at] = b;
-    }
-}
+// The number of bytes=.
+const BYTES: usize = 32;
 
-// Bytes, from a place on.
-fn store(sheet: &mut [u8], place: usize, bytes: &[u8])
-    requires { place + length bytes.now ≤ 120 }
-    ensures { sheet.new ≡ sets sheet.old place bytes.now }
-{
-    let n = bytes.len();
-    for i in 0..n {
-        put(sheet, place + i, bytes[i]);
-    }
-}
-
-// Whether a word is bytes= and a value; its key is k, and `sign` is where the = stands.
-fn is_bytes(word: &[u8], sign: usize, k: usize) -> bool
-    requires { (sign ≡ length (before 61 word.now)) × (k ≡ key_of word.now) }
-    ensures { result ≡ is_bytes word.now }
-{
-    if k == 32 {
-        return sign != word.len();
-    }
-    false
-}
-
-// The bytes that a word says, at their place; what is wrong with it.
-fn put_said(sheet: &mut [u8], s: Said) -> u32
-    requires { (s.count ≤ length s.bytes) × (s.place + s.count ≤ 120) }
-    ensures value { result ≡ s.wrong }
-    ensures sheet_after { sheet.new ≡ sets sheet.old s.place (take s.count s.bytes) }
-{
-    let count = s.count;
-    let bytes = s.bytes;
-    store(sheet, s.place, &bytes[..count]);
-    s.wrong
-}
-
-// Puts a word on a sheet, and answers 0; or changes nothing, and answers what is wrong with the word.
-pub fn take(sheet: &mut [u8], word: &[u8]) -> u32
+// Puts a word on a sheet; a wrong one changes nothing.
+#[tactic(auto, unfolding(crate::specs::Sheet::wrong_of, crate::specs::Sheet::sheet_with, crate::specs::Words::said_by))]
+pub fn take(sheet: &mut [u8], word: &[u8]) -> Result<(), Wrong>
     ensures wrong { result ≡ wrong_of sheet.old word.now }
     ensures sheet { sheet.new ≡ sheet_with sheet.old word.now }
 {
-    let sign = text::find(word, b'=');
-    let k = table::key_number(&word[..sign]);
-    if is_bytes(word, sign, k) {
-        let from = sign + 1;
-        return hex::take_bytes(sheet, &word[from..]);
+    let (name, value) = text::around(word, b'=');
+    let k = table::key_number(name).ok_or(Wrong::NoSuchKey)?;
+    match value {
+        Some(digits) if k == BYTES => hex::take_bytes(sheet, digits),
+        _ => {
+            let q = value::key_said(table::key(k), value)?;
+            text::store(sheet, q.place, &q.bytes[..q.count]);
+            Ok(())
+        }
     }
-    put_said(sheet, value::said_by(word, sign, k))
 }
 
-// Puts all words of a text on a sheet, up to the first wrong one.
-pub fn take_all(sheet: &mut [u8], words: &[u8]) -> Taken
+// Puts all words of a text on a sheet, up to the first wrong one. Places are counted by hand, since a wrong word is told by its place.
+pub fn take_all(sheet: &mut [u8], words: &[u8]) -> Result<(), WrongWord>
     ensures taken { result ≡ taken_by sheet.old words.now }
     ensures sheet { sheet.new ≡ sheet_by sheet.old words.now }
 {
     let mut at = 0;
     while at < words.len() {
-        if words[at] <= 32 {
+        if all::is_blank(words[at]) {
             at += 1;
             continue;
         }
-        let to = all::end_of(words, at);
-        let wrong = take(sheet, &words[at..to]);
-        if wrong != 0 {
-            return Taken {
-                wrong,
-                from: at,
-                to,
-            };
-        }
-        at = to;
+        let from = at;
+        at += all::filled(&words[from..]);
+        take(sheet, &words[from..at]).map_err(|wrong| WrongWord {
+            wrong,
+            from,
+            to: at,
+        })?;
     }
-    Taken {
-        wrong: 0,
-        from: 0,
-        to: 0,
-    }
+    Ok(())
 }
 
 // How many bytes a key has on a sheet, by the kind of its value.
-fn width_of(kind: u32) -> usize
+fn width_of(kind: Kind) -> usize
     ensures { result ≡ width_of kind }
 {
-    if kind == 0 {
-        return 5;
+    match kind {
+        Kind::Hertz => 5,
+        Kind::Mco1 | Kind::Mco2 => 6,
+        _ => 1,
     }
-    if kind == 2 {
-        return 6;
-    }
-    if kind == 3 {
-        return 6;
-    }
-    1
 }
 
 // A sheet without key k: its bytes are a fresh sheet's.
 pub fn without(sheet: &mut [u8], k: usize)
     ensures { sheet.new ≡ without_key sheet.old k }
 {
-    let place = table::place_of(k);
-    let to = place + width_of(table::kind_of(k));
+    let key = table::key(k);
     let blank = sheet::fresh();
-    store(sheet, place, &blank[place..to]);
+    let to = key.place + width_of(key.kind);
+    text::store(sheet, key.place, &blank[key.place..to]);
 }

@@ -1,36 +1,69 @@
 // The keys of a request's words: their names, what kind of value each takes, and the place of its bytes. docs/CODES.md, A request in words.
-ghost use Rattle.std.specs.Prelude.{◌≡◌, get_or};
+ghost use Rattle.std.specs.Prelude.{◌≡◌, ◌<◌, IfSome, get_or};
 ghost use Rattle.text.specs.Names.{number_in};
-ghost use Rattle.ask.specs.Table.{key_names, kinds, places, strategy_names, count_names, show_names};
+ghost use Rattle.ask.specs.Table.{key_names, kinds, places, key_at, strategy_names, count_names, show_names};
 
-// The number of a key; 33 where it is none.
-pub fn key_number(name: &[u8]) -> usize
-    ensures { result ≡ number_in key_names name.now }
+use crate::{Key, Kind};
+
+// The names of the keys, by their numbers, each in twelve columns.
+pub const KEYS: [u8; 396] =
+    *b"hse         lse         audio       sys         per         ahb         \
+    apb1        apb2        apb3        bypass      mco1        mco2        \
+    pll1        pll1.p      pll1.q      pll1.r      pll2        pll2.p      \
+    pll2.q      pll2.r      pll3        pll3.p      pll3.q      pll3.r      \
+    chip        odd1        odd2        odd3        scale       hsion       \
+    hsidiv      show        bytes       ";
+
+// The number of a key.
+#[tactic(auto, unfolding(crate::specs::Table::key_names))]
+pub fn key_number(name: &[u8]) -> Option<usize>
+    ensures number { result ≡ number_in key_names name.now }
+    ensures inside { IfSome result (λ k. k < 33) }
 {
-    text::name_number(
-        b"hse         lse         audio       sys         per         ahb         \
-        apb1        apb2        apb3        bypass      mco1        mco2        \
-        pll1        pll1.p      pll1.q      pll1.r      pll2        pll2.p      \
-        pll2.q      pll2.r      pll3        pll3.p      pll3.q      pll3.r      \
-        chip        odd1        odd2        odd3        scale       hsion       \
-        hsidiv      show        bytes       ",
-        name,
-    )
+    text::name_number(&KEYS, name)
 }
 
-const KINDS: [u32; 33] = [
-    0, 0, 0, 0, 0, 0, 0, 0, 0, 1, 2, 3, 4, 0, 0, 0, 4, 0, 0, 0, 4, 0, 0, 0, 5, 6, 6, 6, 6, 6, 6, 7,
-    8,
+const KINDS: [Kind; 33] = [
+    Kind::Hertz,
+    Kind::Hertz,
+    Kind::Hertz,
+    Kind::Hertz,
+    Kind::Hertz,
+    Kind::Hertz,
+    Kind::Hertz,
+    Kind::Hertz,
+    Kind::Hertz,
+    Kind::Nothing,
+    Kind::Mco1,
+    Kind::Mco2,
+    Kind::Strategy,
+    Kind::Hertz,
+    Kind::Hertz,
+    Kind::Hertz,
+    Kind::Strategy,
+    Kind::Hertz,
+    Kind::Hertz,
+    Kind::Hertz,
+    Kind::Strategy,
+    Kind::Hertz,
+    Kind::Hertz,
+    Kind::Hertz,
+    Kind::Count,
+    Kind::Small,
+    Kind::Small,
+    Kind::Small,
+    Kind::Small,
+    Kind::Small,
+    Kind::Small,
+    Kind::Shown,
+    Kind::Digits,
 ];
 
-// The kind of value that key k takes; 9 past the last key.
-pub fn kind_of(k: usize) -> u32
-    ensures { result ≡ get_or kinds k 9 }
+#[tactic(auto, unfolding(crate::specs::Table::kinds))]
+fn kind_of(k: usize) -> Kind
+    ensures { result ≡ get_or kinds k Kind.Nothing }
 {
-    if k < 33 {
-        return KINDS[k];
-    }
-    9
+    KINDS.get(k).copied().unwrap_or(Kind::Nothing)
 }
 
 const PLACES: [usize; 33] = [
@@ -38,30 +71,44 @@ const PLACES: [usize; 33] = [
     106, 107, 108, 109, 110, 111, 112, 113, 114,
 ];
 
-// Where its bytes stand on a sheet; 0 past the last key.
-pub fn place_of(k: usize) -> usize
+#[tactic(auto, unfolding(crate::specs::Table::places))]
+fn place_of(k: usize) -> usize
     ensures { result ≡ get_or places k 0 }
 {
-    if k < 33 {
-        return PLACES[k];
-    }
-    0
+    PLACES.get(k).copied().unwrap_or(0)
 }
 
-pub fn strategy_number(name: &[u8]) -> usize
-    ensures { result ≡ number_in strategy_names name.now }
+// Key k; a key without a value at the start of a sheet past the last one.
+#[tactic(auto, unfolding(crate::specs::Table::key_at))]
+pub fn key(k: usize) -> Key
+    ensures { result ≡ key_at k }
+{
+    Key {
+        kind: kind_of(k),
+        place: place_of(k),
+    }
+}
+
+#[tactic(auto, unfolding(crate::specs::Table::strategy_names))]
+pub fn strategy_number(name: &[u8]) -> Option<usize>
+    ensures number { result ≡ number_in strategy_names name.now }
+    ensures inside { IfSome result (λ k. k < 2) }
 {
     text::name_number(b"integer     fractional  ", name)
 }
 
-pub fn count_number(name: &[u8]) -> usize
-    ensures { result ≡ number_in count_names name.now }
+#[tactic(auto, unfolding(crate::specs::Table::count_names))]
+pub fn count_number(name: &[u8]) -> Option<usize>
+    ensures number { result ≡ number_in count_names name.now }
+    ensures inside { IfSome result (λ k. k < 2) }
 {
     text::name_number(b"two         three       ", name)
 }
 
-pub fn show_number(name: &[u8]) -> usize
-    ensures { result ≡ number_in show_names name.now }
+#[tactic(auto, unfolding(crate::specs::Table::show_names))]
+pub fn show_number(name: &[u8]) -> Option<usize>
+    ensures number { result ≡ number_in show_names name.now }
+    ensures inside { IfSome result (λ k. k < 4) }
 {
     text::name_number(b"plan        entries     bank        bytes       ", name)
 }

@@ -1,181 +1,124 @@
 // What a word says: bytes for a place of a sheet, or what is wrong with it.
-ghost use Rattle.std.specs.Prelude.{◌≡◌, ◌+◌, ◌≤◌, length};
-ghost use Rattle.text.specs.Names.{before};
+ghost use Rattle.std.specs.Prelude.{◌≡◌, ◌+◌, ◌≤◌, ◌<◌, IfSome, IfOk, option_copied, length, ◌/◌};
 ghost use Rattle.ask.specs.Words as Spec;
 
-use crate::{Said, table};
-use text::Number;
+use crate::{Key, Kind, Said, Wrong, table};
 
-fn wrong_by(wrong: u32) -> Said
-    ensures { result ≡ Spec.wrong_by wrong }
+// One byte, by its number.
+fn one_byte(key: Key, first: u8, number: Option<usize>) -> Result<Said, Wrong>
+    requires { IfSome number (λ n. first + n < 256) }
+    ensures said { result ≡ Spec.one_byte key first number }
+    ensures few { IfOk result (λ q. q.count ≤ 6) }
 {
-    Said {
-        wrong,
-        place: 0,
-        count: 0,
-        bytes: [0; 6],
-    }
+    let n = number.ok_or(Wrong::Value(key.kind))?;
+    Ok(Said {
+        place: key.place,
+        count: 1,
+        bytes: [first + n as u8, 0, 0, 0, 0, 0],
+    })
 }
 
-// One byte, where its number is below a bound.
-fn one_byte(wrong: u32, place: usize, first: u8, bound: usize, n: usize) -> Said
-    requires { first + bound ≤ 256 }
-    ensures { result ≡ Spec.one_byte wrong place first bound n }
+fn hertz_said(key: Key, hertz: Option<u32>) -> Result<Said, Wrong>
+    ensures said { result ≡ Spec.hertz_said key hertz }
+    ensures few { IfOk result (λ q. q.count ≤ 6) }
 {
-    if n < bound {
-        let b = first + n as u8;
-        return Said {
-            wrong: 0,
-            place,
-            count: 1,
-            bytes: [b, 0, 0, 0, 0, 0],
-        };
-    }
-    wrong_by(wrong)
+    let [a, b, c, d] = hertz.ok_or(Wrong::Value(key.kind))?.to_le_bytes();
+    Ok(Said {
+        place: key.place,
+        count: 5,
+        bytes: [1, a, b, c, d, 0],
+    })
 }
 
-fn hertz_said(place: usize, n: Number) -> Said
-    ensures { result ≡ Spec.hertz_said place n }
+fn mco_hertz(key: Key, code: u8, hertz: Option<u32>) -> Result<Said, Wrong>
+    ensures said { result ≡ Spec.mco_hertz key code hertz }
+    ensures few { IfOk result (λ q. q.count ≤ 6) }
 {
-    match n {
-        Number::Wrong => return wrong_by(1),
-        Number::Is(h) => {
-            let a = (h % 256) as u8;
-            let b = (h / 256 % 256) as u8;
-            let c = (h / 65536 % 256) as u8;
-            let d = (h / 16777216) as u8;
-            return Said {
-                wrong: 0,
-                place,
-                count: 5,
-                bytes: [1, a, b, c, d, 0],
-            };
-        }
-    }
+    let [a, b, c, d] = hertz.ok_or(Wrong::Value(key.kind))?.to_le_bytes();
+    Ok(Said {
+        place: key.place,
+        count: 6,
+        bytes: [code, 1, a, b, c, d],
+    })
 }
 
-fn small_said(place: usize, n: Number) -> Said
-    ensures { result ≡ Spec.small_said place n }
+// A source by its name, and hertz behind a colon or none.
+#[tactic(auto, unfolding(crate::specs::Words::mco_said))]
+fn mco_said(key: Key, names: &[u8], value: &[u8]) -> Result<Said, Wrong>
+    requires { length names.now / 12 ≤ 256 }
+    ensures said { result ≡ Spec.mco_said key names.now value.now }
+    ensures few { IfOk result (λ q. q.count ≤ 6) }
 {
-    match n {
-        Number::Wrong => return wrong_by(7),
-        Number::Is(v) => return one_byte(7, place, 0, 256, v as usize),
-    }
-}
-
-fn mco_hertz(wrong: u32, place: usize, code: u8, n: Number) -> Said
-    ensures { result ≡ Spec.mco_hertz wrong place code n }
-{
-    match n {
-        Number::Wrong => return wrong_by(wrong),
-        Number::Is(h) => {
-            let a = (h % 256) as u8;
-            let b = (h / 256 % 256) as u8;
-            let c = (h / 65536 % 256) as u8;
-            let d = (h / 16777216) as u8;
-            return Said {
-                wrong: 0,
-                place,
-                count: 6,
-                bytes: [code, 1, a, b, c, d],
-            };
-        }
-    }
-}
-
-// A source of so many, and hertz behind the colon, which stands at `colon`.
-fn mco_said(
-    wrong: u32,
-    place: usize,
-    sources: usize,
-    number: usize,
-    value: &[u8],
-    colon: usize,
-) -> Said
-    requires { (sources ≤ 6) × (colon ≡ length (before 58 value.now)) }
-    ensures { result ≡ Spec.mco_said wrong place sources number value.now }
-{
-    if sources <= number {
-        return wrong_by(wrong);
-    }
-    let code = number as u8;
-    if colon == value.len() {
-        return Said {
-            wrong: 0,
-            place,
+    let (name, hertz) = text::around(value, b':');
+    let code = text::name_number(names, name).ok_or(Wrong::Value(key.kind))? as u8;
+    match hertz {
+        Some(h) => mco_hertz(key, code, text::hertz(h)),
+        None => Ok(Said {
+            place: key.place,
             count: 6,
             bytes: [code, 0, 0, 0, 0, 0],
-        };
+        }),
     }
-    let from = colon + 1;
-    mco_hertz(wrong, place, code, text::hertz(&value[from..]))
 }
 
-fn mco1_said(place: usize, value: &[u8]) -> Said
-    ensures { result ≡ Spec.value_said 2 place value.now }
+// A number below 256.
+fn small(value: &[u8]) -> Option<usize>
+    ensures number { result ≡ Spec.small value.now }
+    ensures inside { IfSome result (λ n. n < 256) }
 {
-    let colon = text::find(value, b':');
-    let code = text::name_number(
-        b"hsi         lse         hse         pll1q       hsi48       ",
-        &value[..colon],
-    );
-    mco_said(3, place, 5, code, value, colon)
-}
-
-fn mco2_said(place: usize, value: &[u8]) -> Said
-    ensures { result ≡ Spec.value_said 3 place value.now }
-{
-    let colon = text::find(value, b':');
-    let code = text::name_number(
-        b"sysclk      pll2p       hse         pll1p       csi         lsi         ",
-        &value[..colon],
-    );
-    mco_said(4, place, 6, code, value, colon)
+    let n = text::whole(value)? as usize;
+    if n < 256 { Some(n) } else { None }
 }
 
 // A value of each kind.
-fn value_said(kind: u32, place: usize, value: &[u8]) -> Said
-    requires { kind ≤ 9 }
-    ensures { result ≡ Spec.value_said kind place value.now }
+#[tactic(auto, unfolding(crate::specs::Words::value_said, crate::specs::Table::mco1_names, crate::specs::Table::mco2_names))]
+fn value_said(key: Key, value: &[u8]) -> Result<Said, Wrong>
+    ensures said { result ≡ Spec.value_said key value.now }
+    ensures few { IfOk result (λ q. q.count ≤ 6) }
 {
-    match kind {
-        0 => return hertz_said(place, text::hertz(value)),
-        2 => return mco1_said(place, value),
-        3 => return mco2_said(place, value),
-        4 => return one_byte(5, place, 0, 2, table::strategy_number(value)),
-        5 => return one_byte(6, place, 2, 2, table::count_number(value)),
-        6 => return small_said(place, text::whole(value)),
-        7 => return one_byte(8, place, 0, 4, table::show_number(value)),
-        _ => return wrong_by(kind + 1),
+    match key.kind {
+        Kind::Hertz => hertz_said(key, text::hertz(value)),
+        Kind::Mco1 => mco_said(
+            key,
+            b"hsi         lse         hse         pll1q       hsi48       ",
+            value,
+        ),
+        Kind::Mco2 => mco_said(
+            key,
+            b"sysclk      pll2p       hse         pll1p       csi         lsi         ",
+            value,
+        ),
+        Kind::Strategy => one_byte(key, 0, table::strategy_number(value)),
+        Kind::Count => one_byte(key, 2, table::count_number(value)),
+        Kind::Small => one_byte(key, 0, small(value)),
+        Kind::Shown => one_byte(key, 0, table::show_number(value)),
+        Kind::Nothing | Kind::Digits => Err(Wrong::Value(key.kind)),
     }
 }
 
 // A key without a value.
-fn bare_said(kind: u32, place: usize) -> Said
-    requires { kind ≤ 9 }
-    ensures { result ≡ Spec.bare_said kind place }
+#[tactic(auto, unfolding(crate::specs::Words::bare_said))]
+fn bare_said(key: Key) -> Result<Said, Wrong>
+    ensures said { result ≡ Spec.bare_said key }
+    ensures few { IfOk result (λ q. q.count ≤ 6) }
 {
-    if kind == 1 {
-        return Said {
-            wrong: 0,
-            place,
+    match key.kind {
+        Kind::Nothing => Ok(Said {
+            place: key.place,
             count: 1,
             bytes: [1, 0, 0, 0, 0, 0],
-        };
+        }),
+        _ => Err(Wrong::Value(key.kind)),
     }
-    wrong_by(kind + 1)
 }
 
-// A word: a key, or a key, = and a value. `sign` is where the = stands.
-pub fn said_by(word: &[u8], sign: usize, k: usize) -> Said
-    requires { (sign ≡ length (before 61 word.now)) × (k ≡ Spec.key_of word.now) }
-    ensures { result ≡ Spec.said_by word.now }
+// A key, and the value that stands behind its =.
+pub fn key_said(key: Key, value: Option<&[u8]>) -> Result<Said, Wrong>
+    ensures said { result ≡ Spec.key_said key (option_copied value.entry) }
+    ensures few { IfOk result (λ q. q.count ≤ 6) }
 {
-    let kind = table::kind_of(k);
-    let place = table::place_of(k);
-    if sign == word.len() {
-        return bare_said(kind, place);
+    match value {
+        Some(v) => value_said(key, v),
+        None => bare_said(key),
     }
-    let from = sign + 1;
-    value_said(kind, place, &word[from..])
 }

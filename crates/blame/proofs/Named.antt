@@ -5,56 +5,72 @@ use mathlib.Core.List.{List}
 use Prim.Native.Nat.{ℕ, zero, suc, ◌+◌, ◌≤◌, ◌<◌}
 use native.Mathlib.Omega.{arith}
 use lib.Dec.{leb, ltb, eqb}
-use lib.ListN.{length, get_or, take, drop, set, length-set, get_or-eq_default}
+use lib.ListN.{length, get_or, take, drop, set, length-set}
 use lib.Seq.{sets, length-sets, drop-cons, get_or-set_same, get_or-set_other, ext_get_or}
-use borrow.Author.Tests.{ltb-true, ltb-false, le-leb, ne_eqb, eqb-true, eqb-false, not-true}
+use borrow.Author.Tests.{ltb-true, le-leb, ne_eqb, eqb-true, eqb-false, not-true}
 use Rattle.laws.proofs.Tests.{by_test, never, either, and_right, all_below, at_each}
 use Rattle.rules.proofs.Computes.{by_rules}
 use Rattle.text.specs.Names.{least}
-use Rattle.text.proofs.Least.{least_passes, last_passes, some_passes}
-use Rattle.sheet.specs.Sheet.{fresh_sheet, all_zero, request_length, chip_on}
-use Rattle.ask.specs.Table.{kinds, places}
+use Rattle.text.proofs.Least.{least_passes, some_passes}
+use Rattle.std.proofs.Common.{Some, None, option_map}
+use Rattle.std.proofs.lemmas.Option.{none-some}
+use Rattle.sheet.specs.Sheet.{fresh_sheet, request_length, chip_on}
+use Rattle.ask.specs.Table.{kinds, places, key_at}
 use Rattle.ask.specs.Sheet.{width_of, without_key}
-use Rattle.ask.proofs.Keys.{ends_within, width_any}
-use Rattle.blame.specs.Blame.{order, start_for, refusal_on, without_one, without_all, freed_by, blamed_of, last_blamed_of}
+use Rattle.ask.proofs.Keys.{ends_within}
+use Rattle.blame.specs.Blame.{order, start_for, refusal_on, without_one, without_all, freed_by, first_freed, blamed_of, last_blamed_of}
 
--- ---- without the word told the sheet is answered otherwise
-pub blamed_frees : (s : List ℕ) → blamed_of s < 33 → refusal_on (without_key s (blamed_of s)) ≡ refusal_on s → ⊥
-unfolding blamed_of order
-blamed_frees s h =
-    let i = least (freed_by (without_one s) s) 33 in
-    by_test (ltb i 33)
-    (λ (t : ltb i 33 ≡ true).
-    eqb-false _ _ (not-true _ (and_right (leb (start_for (refusal_on s)) i) _ (least_passes (freed_by (without_one s) s) 33 (ltb-true i 33 t)))))
-    (λ (f : ltb i 33 ≡ false). let z = rw (get_or-eq_default order 33 {n = i} (ltb-false i 33 f)) at h in absurd (omega arith))
-
+-- ---- a key that is told is that of a place at which the sheet is answered otherwise, and none is told where there is no such place
 -- every key of the order is one
 named_below : (i : ℕ) → i < 33 → get_or order i 33 < 33
 unfolding order
 named_below i h = ltb-true _ _ (at_each (λ i. ltb (get_or order i 33) 33) 33 refl i h)
 
--- ---- where no single word is told, leaving out one is not enough
-pub none_frees : (s : List ℕ) → blamed_of s ≡ 33 → (i : ℕ) → start_for (refusal_on s) ≤ i → i < 33 → refusal_on (without_one s i) ≡ refusal_on s
+module _ (t : ℕ → List ℕ) (s : List ℕ) where
+  told_frees : (k : ℕ) → first_freed t s ≡ Some k → (i : ℕ) × ((k ≡ get_or order i 33) × (refusal_on (t i) ≡ refusal_on s → ⊥))
+  told_frees k e =
+      elim (least (freed_by t s) 33) as (λ o. least (freed_by t s) 33 ≡ o → option_map (λ j. get_or order j 33) o ≡ Some k → (i : ℕ) × ((k ≡ get_or order i 33) × (refusal_on (t i) ≡ refusal_on s → ⊥))) [
+        | None ↦ λ f q. absurd (none-some k q)
+        | Some i ↦ λ f q.
+            let h = least_passes (freed_by t s) 33 i f in
+            let d : k ≡ get_or order i 33 = cc in
+            (i, (d, eqb-false _ _ (not-true _ (and_right (leb (start_for (refusal_on s)) i) _ h.1))))
+      ] refl e
+
+  none_told : first_freed t s ≡ None → (i : ℕ) → start_for (refusal_on s) ≤ i → i < 33 → refusal_on (t i) ≡ refusal_on s
+  none_told e i h l =
+      by_test (eqb (refusal_on (t i)) (refusal_on s))
+      (λ (y : eqb (refusal_on (t i)) (refusal_on s) ≡ true). eqb-true _ _ y)
+      (λ (f : eqb (refusal_on (t i)) (refusal_on s) ≡ false).
+      absurd
+      (elim (least (freed_by t s) 33) as (λ o. least (freed_by t s) 33 ≡ o → option_map (λ j. get_or order j 33) o ≡ None → ⊥) [
+        | None ↦ λ n q. some_passes (freed_by t s) i (rw (le-leb (start_for (refusal_on s)) i h, f)) 33 l n
+        | Some j ↦ λ n q. none-some (get_or order j 33) (sym q)
+      ] refl e))
+
+  some_told : (i : ℕ) → freed_by t s i ≡ true → i < 33 → (k : ℕ) × ((first_freed t s ≡ Some k) × (k < 33))
+  some_told i y l =
+      elim (least (freed_by t s) 33) as (λ o. least (freed_by t s) 33 ≡ o → (k : ℕ) × ((option_map (λ j. get_or order j 33) o ≡ Some k) × (k < 33))) [
+        | None ↦ λ n. absurd (some_passes (freed_by t s) i y 33 l n)
+        | Some j ↦ λ n. (get_or order j 33, (refl, named_below j (least_passes (freed_by t s) 33 j n).0))
+      ] refl
+
+-- ---- without the word told the sheet is answered otherwise
+pub blamed_frees : (s : List ℕ) (k : ℕ) → blamed_of s ≡ Some k → refusal_on (without_key s k) ≡ refusal_on s → ⊥
 unfolding blamed_of
-none_frees s e i h l =
-    let p = freed_by (without_one s) s in
-    by_test (eqb (refusal_on (without_one s i)) (refusal_on s))
-    (λ (t : eqb (refusal_on (without_one s i)) (refusal_on s) ≡ true). eqb-true _ _ t)
-    (λ (f : eqb (refusal_on (without_one s i)) (refusal_on s) ≡ false).
-    absurd (let z = named_below (least p 33) (some_passes p i (rw (le-leb (start_for (refusal_on s)) i h, f)) 33 l) in omega arith))
+blamed_frees s k e = let h = told_frees (without_one s) s k e in rw h.1.0 h.1.1
+
+-- ---- where no single word is told, leaving out one is not enough
+pub none_frees : (s : List ℕ) → blamed_of s ≡ None → (i : ℕ) → start_for (refusal_on s) ≤ i → i < 33 → refusal_on (without_one s i) ≡ refusal_on s
+unfolding blamed_of
+none_frees s e = none_told (without_one s) s e
 
 -- and the last word told is one with which, and with those tried before it, the answer is another
 pub last_frees :
-    (s : List ℕ) → last_blamed_of s < 33 →
-    (i : ℕ) × (last_blamed_of s ≡ get_or order i 33) × (refusal_on (without_all (start_for (refusal_on s)) s (i + 1)) ≡ refusal_on s → ⊥)
-unfolding last_blamed_of order
-last_frees s h =
-    let a = start_for (refusal_on s) in
-    let p = freed_by (λ i. without_all a s (i + 1)) s in
-    let i = least p 33 in
-    by_test (ltb i 33)
-    (λ (t : ltb i 33 ≡ true). (i, refl, eqb-false _ _ (not-true _ (and_right (leb a i) _ (least_passes p 33 (ltb-true i 33 t))))))
-    (λ (f : ltb i 33 ≡ false). let z = rw (get_or-eq_default order 33 {n = i} (ltb-false i 33 f)) at h in absurd (omega arith))
+    (s : List ℕ) (k : ℕ) → last_blamed_of s ≡ Some k →
+    (i : ℕ) × ((k ≡ get_or order i 33) × (refusal_on (without_all (start_for (refusal_on s)) s (i + 1)) ≡ refusal_on s → ⊥))
+unfolding last_blamed_of
+last_frees s k e = told_frees (λ i. without_all (start_for (refusal_on s)) s (i + 1)) s k e
 
 -- ---- a byte of a key that is taken away is that of a fresh sheet
 -- whether byte j is among the n from p on
@@ -67,7 +83,7 @@ taken : (start i j : ℕ) → Bool
 taken a zero j = false
 taken a (suc i) j =
     let k = get_or order i 33 in
-    cond (leb a i) (among (get_or places k 0) (width_of (get_or kinds k 1)) j || taken a i j) (taken a i j)
+    cond (leb a i) (among (key_at k).place (width_of (key_at k).kind) j || taken a i j) (taken a i j)
 
 fresh_length : length fresh_sheet ≡ 115
 unfolding fresh_sheet
@@ -102,7 +118,7 @@ module _ (a : ℕ) (s : List ℕ) (e : length s ≡ 115) where
       let k = get_or order i 33 in
       by_test (leb a i)
       (λ (t : leb a i ≡ true).
-      rw t (λ h. sets_fresh j b _ _ (without_all a s i) (all_length i) (rw width_any at (ends_within k)) (λ out. all_fresh j b i (rw out at h))))
+      rw t (λ h. sets_fresh j b _ _ (without_all a s i) (all_length i) (ends_within k) (λ out. all_fresh j b i (rw out at h))))
       (λ (f : leb a i ≡ false). rw f (all_fresh j b i))
 
   blank : all_below (λ j. eqb j 113 || taken a 33 j) 115 ≡ true → without_all a s 33 ≡ set fresh_sheet 113 (get_or (without_all a s 33) 113 0)
@@ -119,16 +135,16 @@ module _ (a : ℕ) (s : List ℕ) (e : length s ≡ 115) where
 
 -- every other byte is one of a key that is taken away, whether HSE comes first or not
 all_taken : (t : Bool) → all_below (λ j. eqb j 113 || taken (cond t 0 1) 33 j) 115 ≡ true
-unfolding taken among order places kinds
+unfolding taken among order key_at places kinds
 all_taken true = refl
 all_taken false = refl
 
 -- ---- such a sheet gets a plan, so that some word is told
 gets_a_plan : (x : ℕ) → refusal_on (set fresh_sheet 113 x) ≡ 0
-unfolding refusal_on by_rules request_length all_zero chip_on fresh_sheet
+unfolding refusal_on by_rules request_length chip_on fresh_sheet
 gets_a_plan x = refl
 
-pub always_named : (s : List ℕ) → length s ≡ 115 → (refusal_on s ≡ 0 → ⊥) → last_blamed_of s < 33
+pub always_named : (s : List ℕ) → length s ≡ 115 → (refusal_on s ≡ 0 → ⊥) → (k : ℕ) × ((last_blamed_of s ≡ Some k) × (k < 33))
 unfolding last_blamed_of
 always_named s e d =
     let r = refusal_on s in
@@ -136,5 +152,4 @@ always_named s e d =
     let hse = eqb r 6 || (eqb r 11 || eqb r 19) in
     let low : a ≤ 32 = either (λ m. m ≤ 32) hse 0 1 (omega arith) (omega arith) in
     let plan : refusal_on (without_all a s 33) ≡ 0 = rw (blank a s e (all_taken hse)) (gets_a_plan _) in
-    let found = last_passes (freed_by (λ i. without_all a s (i + 1)) s) 32 (rw (le-leb a 32 low, plan, ne_eqb 0 r (λ q. d (sym q)))) in
-    named_below _ found
+    some_told (λ i. without_all a s (i + 1)) s 32 (rw (le-leb a 32 low, plan, ne_eqb 0 r (λ q. d (sym q)))) (omega arith)

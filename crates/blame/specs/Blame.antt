@@ -1,5 +1,5 @@
 -- The word that a refusal is about: docs/CODES.md, A request in words.
-use Rattle.std.specs.Prelude.{Bool, cond, not, ◌&&◌, ◌||◌, List, [], ◌∷◌, ℕ, zero, suc, ◌+◌, leb, eqb, get_or, take}
+use Rattle.std.specs.Prelude.{Bool, cond, not, ◌&&◌, ◌||◌, List, [], ◌∷◌, Option, option_map, ℕ, zero, suc, ◌+◌, leb, eqb, get_or, take}
 use Rattle.rules.specs.Document01.Refusals.{code_of}
 use Rattle.rules.specs.Document01.Plan.{plan_of}
 use Rattle.text.specs.Names.{least}
@@ -20,7 +20,7 @@ start_for n = cond (eqb n 6 || (eqb n 11 || eqb n 19)) 0 1
 
 -- what the planner answers to a sheet
 unfoldable pub refusal_on : (sheet : List ℕ) → ℕ
-refusal_on s = code_of (plan_of (take (request_length s) s) (chip_on s)).answer
+refusal_on s = code_of (plan_of (take (request_length s) s) (chip_on s))
 
 -- ---- sheets that are tried, one for each place of the order
 -- the sheet without the key at place i
@@ -36,14 +36,14 @@ without_all a s (suc i) = cond (leb a i) (without_one (without_all a s i) i) (wi
 abbrev pub freed_by : (tries : ℕ → List ℕ) → (sheet : List ℕ) → (i : ℕ) → Bool
 freed_by t s i = leb (start_for (refusal_on s)) i && not (eqb (refusal_on (t i)) (refusal_on s))
 
--- the key at the first such place; 33 where there is none
-abbrev pub first_freed : (tries : ℕ → List ℕ) → (sheet : List ℕ) → ℕ
-first_freed t s = get_or order (least (freed_by t s) 33) 33
+-- the key at the first such place; none where there is none
+abbrev pub first_freed : (tries : ℕ → List ℕ) → (sheet : List ℕ) → Option ℕ
+first_freed t s = option_map (λ i. get_or order i 33) (least (freed_by t s) 33)
 
 -- the key without which the sheet is answered otherwise
-unfoldable pub blamed_of : (sheet : List ℕ) → ℕ
+unfoldable pub blamed_of : (sheet : List ℕ) → Option ℕ
 blamed_of s = first_freed (without_one s) s
 
 -- the last key of those without which, taken away one after the other, the sheet is answered otherwise
-unfoldable pub last_blamed_of : (sheet : List ℕ) → ℕ
+unfoldable pub last_blamed_of : (sheet : List ℕ) → Option ℕ
 last_blamed_of s = first_freed (λ (i : ℕ). without_all (start_for (refusal_on s)) s (i + 1)) s

@@ -12,29 +12,20 @@ const ORDER: [usize; 33] = [
 ];
 
 // The number of the refusal that a sheet gets; 0 for a plan.
+#[tactic(auto, unfolding(crate::specs::Blame::refusal_on))]
 fn refusal_on(sheet: &[u8]) -> u32
     ensures { result ≡ refusal_on sheet.now }
 {
     let n = sheet::request_length(sheet);
-    let planned = rcc::plan(&sheet[..n], sheet::chip(sheet));
-    let answer = planned.answer;
-    refusal::code_of(answer)
-}
-
-// The same of a sheet's own bytes.
-fn refusal_of(sheet: [u8; 115]) -> u32
-    ensures { result ≡ refusal_on sheet }
-{
-    refusal_on(&sheet)
+    refusal::code_of(&rcc::plan(&sheet[..n], sheet::chip(sheet)))
 }
 
 // A sheet without key k.
-fn without(sheet: [u8; 115], k: usize) -> [u8; 115]
+fn without(mut sheet: [u8; 115], k: usize) -> [u8; 115]
     ensures { result ≡ without_key sheet k }
 {
-    let mut s = sheet;
-    ask::without(&mut s, k);
-    s
+    ask::without(&mut sheet, k);
+    sheet
 }
 
 // The key at a place of the order.
@@ -49,50 +40,40 @@ fn key_at(i: usize) -> usize
 fn start_for(number: u32) -> usize
     ensures { result ≡ start_for number }
 {
-    if number == 6 {
-        return 0;
+    match number {
+        6 | 11 | 19 => 0,
+        _ => 1,
     }
-    if number == 11 {
-        return 0;
-    }
-    if number == 19 {
-        return 0;
-    }
-    1
 }
 
-// The number of the key without which the sheet is answered otherwise; 33 where no single one is.
-pub fn blamed(sheet: [u8; 115]) -> usize
+// The number of the key without which the sheet is answered otherwise.
+pub fn blamed(sheet: [u8; 115]) -> Option<usize>
     ensures { result ≡ blamed_of sheet }
 {
-    let number = refusal_of(sheet);
-    let mut i = start_for(number);
-    while i < 33 {
+    let number = refusal_on(&sheet);
+    for i in start_for(number)..33 {
         let k = key_at(i);
         let one_less = without(sheet, k);
-        if refusal_of(one_less) != number {
-            return k;
+        if refusal_on(&one_less) != number {
+            return Some(k);
         }
-        i += 1;
     }
-    33
+    None
 }
 
-// The number of the last key of those without which, taken away one after the other, the sheet is answered otherwise; 33 where none is.
-pub fn last_blamed(sheet: [u8; 115]) -> usize
+// The number of the last key of those without which, taken away one after the other, the sheet is answered otherwise.
+pub fn last_blamed(sheet: [u8; 115]) -> Option<usize>
     ensures { result ≡ last_blamed_of sheet }
 {
-    let number = refusal_of(sheet);
+    let number = refusal_on(&sheet);
     let mut rest = sheet;
-    let mut i = start_for(number);
-    while i < 33 {
+    for i in start_for(number)..33 {
         let k = key_at(i);
         let less = without(rest, k);
-        if refusal_of(less) != number {
-            return k;
+        if refusal_on(&less) != number {
+            return Some(k);
         }
         rest = less;
-        i += 1;
     }
-    33
+    None
 }

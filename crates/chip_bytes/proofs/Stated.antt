@@ -20,17 +20,17 @@ abbrev chip : List ℕ
 chip = 2 ∷ 1 ∷ 1 ∷ 1 ∷ 0 ∷ 1 ∷ 2 ∷ []
 
 pub lengths :
-    code_of (asked_of bytes chip true).answer ∷ code_of (asked_of bytes chip false).answer ∷ code_of (asked_of bytes (0 ∷ chip) true).answer
-    ∷ code_of (asked_of bytes (2 ∷ 1 ∷ 1 ∷ 1 ∷ 0 ∷ 1 ∷ []) true).answer ∷ []
+    code_of (asked_of bytes chip true) ∷ code_of (asked_of bytes chip false) ∷ code_of (asked_of bytes (0 ∷ chip) true)
+    ∷ code_of (asked_of bytes (2 ∷ 1 ∷ 1 ∷ 1 ∷ 0 ∷ 1 ∷ []) true) ∷ []
     ≡ 0 ∷ 1 ∷ 1 ∷ 1 ∷ []
 unfolding by_rules asked_of
 lengths = refl
 
 -- the bank call: a report beside it or a chip of another length is 1, before a bank of another length, which is 2
 pub bank_lengths :
-    code_of (bank_asked bytes chip true 82).answer ∷ code_of (bank_asked bytes chip true 81).answer ∷ code_of (bank_asked bytes chip true 83).answer
-    ∷ code_of (bank_asked bytes chip false 82).answer ∷ code_of (bank_asked bytes chip false 81).answer
-    ∷ code_of (bank_asked bytes (0 ∷ chip) true 82).answer ∷ code_of (bank_asked bytes (0 ∷ chip) true 81).answer ∷ []
+    code_of (bank_asked bytes chip true 82) ∷ code_of (bank_asked bytes chip true 81) ∷ code_of (bank_asked bytes chip true 83)
+    ∷ code_of (bank_asked bytes chip false 82) ∷ code_of (bank_asked bytes chip false 81)
+    ∷ code_of (bank_asked bytes (0 ∷ chip) true 82) ∷ code_of (bank_asked bytes (0 ∷ chip) true 81) ∷ []
     ≡ 0 ∷ 2 ∷ 2 ∷ 1 ∷ 1 ∷ 1 ∷ 1 ∷ []
 unfolding by_rules bank_asked
 bank_lengths = refl

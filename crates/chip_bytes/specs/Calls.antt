@@ -1,10 +1,10 @@
 -- What the planner answers to a request beside a chip's bytes: docs/CODES.md, The C functions.
-use Rattle.std.specs.Prelude.{Bool, cond, ◌&&◌, List, [], ◌∷◌, ℕ, eqb, length, get_or}
+use Rattle.std.specs.Prelude.{Bool, cond, ◌&&◌, List, [], ◌∷◌, ℕ, eqb, length, get_or, Result, Err}
+use Rattle.types.specs.declared.Refusal.{Refusal}
+use Rattle.types.specs.declared.Plan.{Plan}
 use Rattle.types.specs.declared.Chip.{Chip}
 use Rattle.types.specs.declared.Refusal.TheVariants.{OutsideCodes}
-use Rattle.types.specs.declared.Planned.{Planned}
-use Rattle.rules.specs.Document01.Result as Result
-use Rattle.rules.specs.Document01.Plan.{answered, plan_of, bank_plan_of}
+use Rattle.rules.specs.Document01.Plan.{plan_of, bank_plan_of}
 
 -- the chip's numbers
 abbrev pub chip_of : (plls odd1 odd2 odd3 scale hsion hsidiv : ℕ) → Chip
@@ -18,14 +18,10 @@ chip_from c = chip_of (get_or c 0 0) (get_or c 1 0) (get_or c 2 0) (get_or c 3 0
 unfoldable pub checked_chip : (chip : List ℕ) → (fits : Bool) → Chip
 checked_chip chip fits = cond (eqb (length chip) 7 && fits) (chip_from chip) (chip_of 0 0 0 0 0 0 0)
 
--- refusal 1
-abbrev pub outside : Planned
-outside = answered (Result.refused OutsideCodes)
-
 -- a request beside a chip of 7 bytes, where the lent slice has its length; else refusal 1
-unfoldable pub asked_of : (request chip : List ℕ) → (fits : Bool) → Planned
-asked_of request chip fits = cond (eqb (length chip) 7 && fits) (plan_of request (chip_from chip)) outside
+unfoldable pub asked_of : (request chip : List ℕ) → (fits : Bool) → Result Plan Refusal
+asked_of request chip fits = cond (eqb (length chip) 7 && fits) (plan_of request (chip_from chip)) (Err OutsideCodes)
 
 -- the bank call likewise: 2 judges the bank's length, after 1
-unfoldable pub bank_asked : (request chip : List ℕ) → (fits : Bool) → (words : ℕ) → Planned
-bank_asked request chip fits words = cond (eqb (length chip) 7 && fits) (bank_plan_of request (chip_from chip) words) outside
+unfoldable pub bank_asked : (request chip : List ℕ) → (fits : Bool) → (words : ℕ) → Result Plan Refusal
+bank_asked request chip fits words = cond (eqb (length chip) 7 && fits) (bank_plan_of request (chip_from chip) words) (Err OutsideCodes)

@@ -4,9 +4,10 @@
 ghost use Rattle.std.specs.Prelude.{◌≡◌, true, length};
 ghost use Rattle.rules.specs.Document01.Entries.{entries_of};
 ghost use Rattle.rules.specs.Document01.Bank.{apply_all};
+ghost use Rattle.rules.specs.Document01.Result.{without_value};
 ghost use Rattle.chip_bytes.specs.Calls.{chip_of, chip_from, checked_chip, asked_of, bank_asked};
 
-use types::{Answer, Chip, Planned};
+use types::{Chip, Plan, Refusal};
 
 // The chip's numbers, a byte for each.
 fn chip_of(plls: u8, odd1: u8, odd2: u8, odd3: u8, scale: u8, hsion: u8, hsidiv: u8) -> Chip
@@ -31,6 +32,7 @@ fn chip_from(chip: &[u8]) -> Chip
 }
 
 // The chip, where it has seven bytes and the slice lent beside it has its length: `fits`. Else one without PLLs, which refusal 1 judges.
+#[tactic(auto, unfolding(crate::specs::Calls::checked_chip))]
 pub fn checked(chip: &[u8], fits: bool) -> Chip
     ensures { result ≡ checked_chip chip.now fits }
 {
@@ -45,14 +47,16 @@ pub fn checked(chip: &[u8], fits: bool) -> Chip
 }
 
 // The planner's call, where the slice lent beside it has its length: `fits`.
-pub fn plan(request: &[u8], chip: &[u8], fits: bool) -> Planned
+#[tactic(auto, using(crate::proofs::Answers::as_asked, crate::proofs::Answers::as_bank))]
+pub fn plan(request: &[u8], chip: &[u8], fits: bool) -> Result<Plan, Refusal>
     ensures { result ≡ asked_of request.now chip.now fits }
 {
     rcc::plan(request, checked(chip, fits))
 }
 
 // The call with a bank, likewise.
-pub fn plan_bank(request: &[u8], chip: &[u8], fits: bool, bank: &mut [u32]) -> Planned
+#[tactic(auto, using(crate::proofs::Answers::as_asked, crate::proofs::Answers::as_bank))]
+pub fn plan_bank(request: &[u8], chip: &[u8], fits: bool, bank: &mut [u32]) -> Result<Plan, Refusal>
     ensures answer { result ≡ bank_asked request.now chip.now fits (length bank.old) }
     ensures bank { bank.new ≡ apply_all (entries_of (bank_asked request.now chip.now fits (length bank.old))) bank.old }
 {
@@ -60,10 +64,11 @@ pub fn plan_bank(request: &[u8], chip: &[u8], fits: bool, bank: &mut [u32]) -> P
 }
 
 // The call with a bank and no slice beside it: whether there is a plan. The plan itself is not handed on, which spares a copy.
-pub fn answer_bank(request: &[u8], chip: &[u8], bank: &mut [u32]) -> Answer
-    ensures answer { result ≡ (bank_asked request.now chip.now true (length bank.old)).answer }
+#[tactic(auto, using(crate::proofs::Answers::as_asked, crate::proofs::Answers::as_bank))]
+pub fn answer_bank(request: &[u8], chip: &[u8], bank: &mut [u32]) -> Result<(), Refusal>
+    ensures answer { result ≡ without_value (bank_asked request.now chip.now true (length bank.old)) }
     ensures bank { bank.new ≡ apply_all (entries_of (bank_asked request.now chip.now true (length bank.old))) bank.old }
 {
-    let x = rcc::plan_bank(request, checked(chip, true), bank);
-    x.answer
+    rcc::plan_bank(request, checked(chip, true), bank)?;
+    Ok(())
 }

@@ -1,3 +1,2 @@
-pub mod Answers
-pub mod OnePll
+pub mod Fits
 pub mod Stated

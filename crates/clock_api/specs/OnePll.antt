@@ -1,17 +1,21 @@
 -- What the C function of one PLL answers: docs/CODES.md, The C functions.
-use Rattle.std.specs.Prelude.{cond, ◌&&◌, List, ℕ, eqb, ltb}
-use Rattle.types.specs.declared.Pll.{Pll}
+use Rattle.std.specs.Prelude.{◌&&◌, List, ℕ, eqb, ltb, Option, Result, Ok, Err}
+use Rattle.types.specs.declared.Refusal.{Refusal}
+use Rattle.types.specs.declared.PllSettings.{PllSettings}
 use Rattle.types.specs.declared.Refusal.TheVariants.{OutsideCodes}
-use Rattle.rules.specs.Document01.Result.{Result, refused, ok}
-use Rattle.request.specs.declared.PartRead.{PartRead}
+use Rattle.types.specs.declared.PllRequest.{PllRequest}
+use Rattle.rules.specs.Document01.Result.{◌>>=◌, ◌>>◌, require}
 use Rattle.pll.specs.Answer.{one_pll_of}
 use Rattle.pll_words.specs.PllWords.{pll_stored}
 
--- one PLL: refusal 1 where odd is outside its codes, the slice has not 18 words or the bytes are no part of a request; else what is chosen
-unfoldable pub pll_for : (odd source : ℕ) → PartRead → (words : ℕ) → Result Pll
-pll_for odd source x words = cond (eqb words 18 && (ltb odd 2 && x.read)) (one_pll_of (eqb odd 1) source x.part) (refused OutsideCodes)
+-- one PLL: refusal 1 where the slice has not 18 words, odd is outside its codes or the bytes are no part of a request; else what is chosen
+unfoldable pub pll_for : (odd source : ℕ) → Result PllRequest Refusal → (words : ℕ) → Result (Option PllSettings) Refusal
+pll_for odd source part words = do
+  require (eqb words 18 && ltb odd 2) OutsideCodes
+  a ← part
+  one_pll_of (eqb odd 1) source a
 
 -- its settings and its outputs; a refusal changes no word
-abbrev pub pll_room : Result Pll → List ℕ → List ℕ
-pll_room (refused n) room = room
-pll_room (ok x) room = pll_stored x room
+abbrev pub pll_room : Result (Option PllSettings) Refusal → List ℕ → List ℕ
+pll_room (Err n) room = room
+pll_room (Ok x) room = pll_stored x room

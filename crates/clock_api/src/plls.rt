@@ -6,9 +6,9 @@ ghost use Rattle.pll_registers.specs.Calls.{registers_asked, registers_by};
 
 // CFGR, DIVR and FRACR of each PLL in PLL order, in nine words: on a chip with two PLLs the last three stay.
 pub fn clock_pll_registers(request: &[u8], chip: &[u8], words: &mut [u32]) -> u32
-    ensures code { result ≡ code_of (registers_asked request.now (checked_chip chip.now true) (length words.old)).answer }
+    ensures code { result ≡ code_of (registers_asked request.now (checked_chip chip.now true) (length words.old)) }
     ensures words { words.new ≡ registers_by (registers_asked request.now (checked_chip chip.now true) (length words.old)) words.old }
 {
     let answer = pll_registers::plan_registers(request, chip_bytes::checked(chip, true), words);
-    refusal::code_of(answer)
+    refusal::code_of(&answer)
 }

@@ -10,7 +10,7 @@ pub fn clock_walk(request: &[u8], chip: &[u8], reads: &[u32], shown: &mut [u32])
     ensures shown { shown.new ≡ ran stepped_of (fresh_of (asked_of request.now chip.now true)) reads.now shown.old result }
 {
     let x = chip_bytes::plan(request, chip, true);
-    walk::run(x, reads, shown)
+    walk::run(&x, reads, shown)
 }
 
 // The same of the voltage walk to a scale.

@@ -1,4 +1,1 @@
-pub mod Reasons
-pub mod Leaf
-pub mod WaitStates
 pub mod Stated

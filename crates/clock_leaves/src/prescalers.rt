@@ -2,38 +2,32 @@
 ghost use Rattle.std.specs.Prelude.{◌≡◌, length, true};
 ghost use Rattle.rules.specs.Document01.Buses.{ahb_of, apb_of, timer_of};
 ghost use Rattle.rules.specs.Document01.Mco.{mco_of};
-ghost use Rattle.rules.specs.Answers.{bus_result, mco_result};
+ghost use Rattle.rules.specs.Document01.Refusals.{code_of};
 ghost use Rattle.clock_leaves.specs.Leaves.{leaf_code, hertz_in, bus_room, mco_room, leaf_fits};
 
 use crate::three;
-use types::{BusAnswer, Hertz, McoAnswer};
+use types::{Bus, Mco, Refusal};
 
-fn hertz_in(set: u32, hertz: u32) -> Hertz
+fn hertz_in(set: u32, hertz: u32) -> Option<u32>
     ensures { result ≡ hertz_in set hertz }
 {
-    if set == 0 {
-        return Hertz::Unset;
-    }
-    Hertz::Hz(hertz)
+    if set == 0 { None } else { Some(hertz) }
 }
 
 fn fits(set: u32, words: usize, length: usize) -> bool
     ensures { result ≡ leaf_fits set words length }
 {
-    if set < 2 {
-        return length == words;
-    }
-    false
+    set < 2 && length == words
 }
 
-fn bus(x: BusAnswer, out: &mut [u32]) -> u32
+fn bus(x: Result<Bus, Refusal>, out: &mut [u32]) -> u32
     requires { length out.old ≡ 2 }
-    ensures code { result ≡ leaf_code true (bus_result x) }
-    ensures out { out.new ≡ bus_room true (bus_result x) out.old }
+    ensures code { result ≡ code_of x }
+    ensures out { out.new ≡ bus_room true x out.old }
 {
     match x {
-        BusAnswer::Refused(n) => refusal::number_of(n),
-        BusAnswer::Divided(b) => {
+        Err(n) => refusal::number_of(n),
+        Ok(b) => {
             out[0] = b.pre;
             out[1] = b.clock;
             0
@@ -70,17 +64,14 @@ pub fn clock_timer(hclk: u32, ppre: u32) -> u32
     prescaler::timer(hclk, ppre)
 }
 
-fn output(x: McoAnswer, out: &mut [u32]) -> u32
+fn output(x: Result<Mco, Refusal>, out: &mut [u32]) -> u32
     requires { length out.old ≡ 3 }
-    ensures code { result ≡ leaf_code true (mco_result x) }
-    ensures out { out.new ≡ mco_room true (mco_result x) out.old }
+    ensures code { result ≡ code_of x }
+    ensures out { out.new ≡ mco_room true x out.old }
 {
     match x {
-        McoAnswer::Refused(n) => refusal::number_of(n),
-        McoAnswer::Prescaled(p) => {
-            let clock = p.clock;
-            three(p.pre, hertz::set_of(clock), hertz::hertz_or(clock, 0), out)
-        }
+        Err(n) => refusal::number_of(n),
+        Ok(m) => three(m.pre, m.clock.is_some() as u32, m.clock.unwrap_or(0), out),
     }
 }
 

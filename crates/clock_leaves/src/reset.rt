@@ -5,8 +5,9 @@ ghost use Rattle.clock_leaves.specs.Leaves.{leaf_code};
 ghost use Rattle.clock_leaves.specs.Reasons.{reason_code, reason_room};
 
 use crate::three;
-use types::{ResetAnswer, ResetReason};
+use types::ResetReason;
 
+// By hand, since `as` takes no enum with a word in one variant.
 fn reason_code(r: ResetReason) -> u32
     ensures { result ≡ reason_code r }
 {
@@ -31,7 +32,7 @@ pub fn clock_reset_reason(plls: u32, word: u32, out: &mut [u32]) -> u32
         return 1;
     }
     match reset_reason::reset_reason(plls, word) {
-        ResetAnswer::Refused(n) => refusal::number_of(n),
-        ResetAnswer::Reason(r, back) => three(reason_code(r), word, back, out),
+        Err(n) => refusal::number_of(n),
+        Ok(r) => three(reason_code(r.reason), word, r.write_back, out),
     }
 }

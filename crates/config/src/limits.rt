@@ -1,57 +1,44 @@
 // Refusals 3 and 4.
-ghost use Rattle.std.specs.Prelude.{◌≡◌, not, ◌&&◌, ◌||◌};
-ghost use Rattle.rules.specs.Document01.Hertz.{is_set};
+ghost use Rattle.std.specs.Prelude.{◌≡◌};
 ghost use Rattle.rules.specs.Document01.Request as Rules;
 
-use types::{Hertz, Mco1Source, Mco2Source};
+use types::{Mco1Source, Mco2Source, Refusal, Request};
 
 // At most 250,000,000, where it is requested.
-fn within(h: Hertz) -> bool
+fn within(h: Option<u32>) -> bool
     ensures { result ≡ Rules.within h }
 {
-    match h {
-        Hertz::Unset => true,
-        Hertz::Hz(f) => f <= 250_000_000,
-    }
+    h.is_none_or(|f| f <= 250_000_000)
 }
 
-pub fn limited(system: Hertz, ahb: Hertz, apb1: Hertz, apb2: Hertz, apb3: Hertz) -> bool
-    ensures { result ≡ Rules.within system && (Rules.within ahb && (Rules.within apb1 && (Rules.within apb2 && Rules.within apb3))) }
+// Refusal 3.
+pub fn limited(q: &Request) -> Result<(), Refusal>
+    ensures { result ≡ Rules.limited q.now }
 {
-    within(system) & (within(ahb) & (within(apb1) & (within(apb2) & within(apb3))))
+    if within(q.system) & (within(q.ahb) & (within(q.apb1) & (within(q.apb2) & within(q.apb3)))) {
+        return Ok(());
+    }
+    Err(Refusal::AboveLimit)
 }
 
 fn from_hse1(source: Mco1Source) -> bool
     ensures { result ≡ Rules.from_hse1 source }
 {
-    match source {
-        Mco1Source::Hsi => false,
-        Mco1Source::Lse => false,
-        Mco1Source::Hse => true,
-        Mco1Source::Pll1Q => false,
-        Mco1Source::Hsi48 => false,
-    }
+    matches!(source, Mco1Source::Hse)
 }
 
 fn from_hse2(source: Mco2Source) -> bool
     ensures { result ≡ Rules.from_hse2 source }
 {
-    match source {
-        Mco2Source::Sysclk => false,
-        Mco2Source::Pll2P => false,
-        Mco2Source::Hse => true,
-        Mco2Source::Pll1P => false,
-        Mco2Source::Csi => false,
-        Mco2Source::Lsi => false,
-    }
+    matches!(source, Mco2Source::Hse)
 }
 
-// An MCO from HSE has HSE stated.
-pub fn stated(hse: Hertz, source1: Mco1Source, source2: Mco2Source) -> bool
-    ensures { result ≡ is_set hse || not (Rules.from_hse1 source1 || Rules.from_hse2 source2) }
+// Refusal 4: an MCO from HSE has HSE stated.
+pub fn stated(q: &Request) -> Result<(), Refusal>
+    ensures { result ≡ Rules.stated q.now }
 {
-    if let Hertz::Hz(_) = hse {
-        return true;
+    if q.hse.is_some() | !(from_hse1(q.mco1source) | from_hse2(q.mco2source)) {
+        return Ok(());
     }
-    !(from_hse1(source1) | from_hse2(source2))
+    Err(Refusal::McoHseUnstated)
 }

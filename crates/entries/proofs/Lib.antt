@@ -1,3 +1,3 @@
+pub mod Told
 pub mod Counted
-pub mod Placed
-pub mod Whole
+pub mod Picked

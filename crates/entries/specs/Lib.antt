@@ -1,2 +1,3 @@
-pub mod Counts
-pub mod Place
+pub mod Sink
+pub mod Count
+pub mod Pick

@@ -1,97 +1,62 @@
-// How many register entries does an answer have, and which is each? Document 01, Register entries.
+// How many register entries does an answer have, and which is each? Document 01, Register entries. The list is told once, entry by entry, to
+// whatever takes it.
 #![tactic(auto)]
 
-ghost use Rattle.std.specs.Prelude.{◌≡◌, length};
+ghost use Rattle.std.specs.Prelude.{◌≡◌, length, slice_get};
 ghost use Rattle.rules.specs.Document01.Entries.{entries_of, plan_entries};
-ghost use Rattle.entries.specs.Place.{entry_at, after_clocks};
+ghost use Rattle.entries.specs.Sink.{told};
 
-use fields::SRC;
-use types::{Answer, Entry, Plan, Planned};
+use count::Count;
+use pick::Pick;
+use types::{Entry, Plan, Refusal};
 
-mod counts;
-mod places;
+mod buses;
+mod clocks;
+mod count;
+mod pick;
+mod plls;
+pub mod sink;
 
-// How many entries there are: none beside a refusal.
-pub fn entry_count(x: Planned) -> usize
-    ensures { result ≡ length (entries_of x) }
+// The whole list of an answer is told to a sink, in order: none beside a refusal.
+#[tactic(auto, unfolding(rules::specs::Document01::Entries::entries_of))]
+pub fn tell<S: sink::Sink>(x: &Result<Plan, Refusal>, s: &mut S, room: &mut [u32])
+    ensures { (s.new, room.new) ≡ told S.after (entries_of x.now) (s.old, room.old) }
 {
-    let answer = x.answer;
-    let plan = x.plan;
-    match answer {
-        Answer::Accepted => plan_count(plan),
-        Answer::Refused(_) => 0,
+    if let Ok(plan) = x {
+        tell_plan(plan, s, room);
     }
 }
 
-// The parts of the whole list: the clocks are 9 entries and the buses 10.
-fn plan_count(plan: Plan) -> usize
-    ensures { result ≡ length (plan_entries plan) }
+// The parts of the whole list of a plan, in order.
+#[tactic(auto, using(crate::proofs::Told::told_append), unfolding(rules::specs::Document01::Entries::list_with))]
+fn tell_plan<S: sink::Sink>(plan: &Plan, s: &mut S, room: &mut [u32])
+    ensures { (s.new, room.new) ≡ told S.after (plan_entries plan.now) (s.old, room.old) }
 {
-    let plls = plan.plls;
-    let given = plan.clocks;
-    let hse = given.hse;
-    let a = counts::setups(plls);
-    let b = counts::hse(hse);
-    let c = counts::sources(plan.three);
-    let d = counts::starts(plls);
-    a + 9 + b + c + d + 10
+    plls::set_up_all(&plan.plls, s, room);
+    clocks::clocks(plan.waits, &plan.selectors, &plan.mcos, s, room);
+    clocks::hse_on(plan.clocks.hse, plan.bypass, s, room);
+    plls::sources(plan.three, plan.selectors.src, s, room);
+    plls::start_all(&plan.plls, s, room);
+    buses::buses(&plan.buses, &plan.selectors, s, room)
 }
 
-// An entry of the list, or that it ends before.
-#[derive(Clone, Copy)]
-pub enum EntryAt {
-    Is(Entry),
-    Past,
+// How many entries there are.
+pub fn entry_count(x: &Result<Plan, Refusal>) -> usize
+    ensures { result ≡ length (entries_of x.now) }
+{
+    let mut count = Count { entries: 0 };
+    tell(x, &mut count, &mut []);
+    count.entries
 }
 
 // Entry k of the list, from 0.
-pub fn entry_at(x: Planned, k: usize) -> EntryAt
-    ensures { result ≡ entry_at (entries_of x) k }
+pub fn entry_at(x: &Result<Plan, Refusal>, k: usize) -> Option<Entry>
+    ensures { result ≡ slice_get (entries_of x.now) k }
 {
-    let answer = x.answer;
-    let plan = x.plan;
-    match answer {
-        Answer::Accepted => plan_at(plan, k),
-        Answer::Refused(_) => EntryAt::Past,
-    }
-}
-
-// The whole list, in order: inside a part, or further on.
-fn plan_at(plan: Plan, k: usize) -> EntryAt
-    ensures { result ≡ entry_at (plan_entries plan) k }
-{
-    let plls = plan.plls;
-    let a = counts::setups(plls);
-    if k < a {
-        return EntryAt::Is(places::setups_at(plls, k));
-    }
-    let l = k - a;
-    if l < 9 {
-        return EntryAt::Is(places::clock_at(plan.waits, plan.selectors, plan.mcos, l));
-    }
-    after_clocks(plan, l - 9)
-}
-
-// The list from HSE on: HSE, each SRC, the starts, the buses.
-fn after_clocks(plan: Plan, k: usize) -> EntryAt
-    ensures { result ≡ entry_at (after_clocks plan) k }
-{
-    let plls = plan.plls;
-    let given = plan.clocks;
-    let hse = given.hse;
-    let a = counts::hse(hse);
-    if k < a {
-        return EntryAt::Is(places::hse_at(plan.bypass, k));
-    }
-    let l = k - a;
-    let b = counts::sources(plan.three);
-    if l < b {
-        return EntryAt::Is(Entry::Set(15 * l + SRC, plan.selectors.src));
-    }
-    let m = l - b;
-    let c = counts::starts(plls);
-    if m < c {
-        return EntryAt::Is(places::starts_at(plls, m));
-    }
-    places::bus_at(plan.buses, plan.selectors, m - c)
+    let mut pick = Pick {
+        before: k,
+        found: None,
+    };
+    tell(x, &mut pick, &mut []);
+    pick.found
 }

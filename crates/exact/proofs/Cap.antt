@@ -1,8 +1,8 @@
 -- A number as 64 bits hold it, times a divisor.
 use mathlib.Core.Path.{◌≡◌}
 use mathlib.Core.Bool.{true, false}
-use Prim.Native.Nat.{ℕ, ◌*◌, ◌/◌, ◌≤◌, ◌<◌}
-use native.Mathlib.Nat.{le_trans, mul-le-mul_left, mul-le-mul_right, mul-one, div-lt_iff_lt-mul, le-div_iff_mul-le}
+use Prim.Native.Nat.{ℕ, ◌*◌, ◌-◌, ◌^◌, ◌≤◌, ◌<◌, min}
+use native.Mathlib.Nat.{le_trans, min-eq_left, min-eq_right, mul-le-mul_left, mul-le-mul_right, mul-one}
 use native.Mathlib.Omega.{arith}
 use lib.Dec.{leb}
 use borrow.Author.Tests.{leb-true, leb-false, le-leb}
@@ -37,9 +37,10 @@ cap_times x d h =
     let m : max * d ≤ x * d = mul-le-mul_right d (omega arith) in
     rw (← cap_full x (omega arith), ← cap_full (max * d) k, ← cap_full (x * d) (le_trans k m)))
 
--- a product fits exactly where a is at most max / b
-pub fits : (a b : ℕ) → 1 ≤ b → a ≤ max / b → a * b ≤ max
-fits a b h l = (le-div_iff_mul-le {k = b} {x = a} {y = max} h).0 l
-
-pub passes : (a b : ℕ) → 1 ≤ b → max / b < a → max ≤ a * b
-passes a b h l = omega (arith, (div-lt_iff_lt-mul h).0 l)
+-- by std's word
+pub cap_is : (n : ℕ) → min n (2 ^ 64 - 1) ≡ cap n
+unfolding cap
+cap_is n =
+    by_test (leb n max)
+    (λ (t : leb n max ≡ true). rw t (min-eq_left (leb-true n max t)))
+    (λ (t : leb n max ≡ false). let l = leb-false n max t in rw t (min-eq_right {n = max} {m = n} (omega arith)))

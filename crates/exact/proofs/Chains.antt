@@ -7,10 +7,11 @@ use native.Mathlib.Omega.{arith}
 use lib.ListN.{length, get_or, get_or-eq_default}
 use borrow.Author.Tests.{ne_eqb}
 use Rattle.rules.specs.Manual.Path.{PllName, whole, part, Path, direct, through, product, num, den, extend}
-use Rattle.rules.specs.Manual.Tree.{Oscillator, off, runs, Chain, none, along, from_oscillator, switched, gated, over, hsi_by, timer_by, vco_by}
-use Rattle.exact.specs.declared.Reading.TheVariants.{Nothing, Exactly}
+use Rattle.rules.specs.Manual.Tree.{Oscillator, off, runs, Chain, none, along, from_oscillator, switched, gated, over, hsi_by, timer_by, vco_by, Output, P, Q, R, divider, enable}
+use Rattle.std.specs.Prelude.{Option, Some, None}
+use Rattle.exact.specs.declared.Exact.{Exact}
 use Rattle.exact.specs.Exact.{reading_of, scaled_by}
-use Rattle.exact.proofs.Cap.{max, cap_fits, cap_times}
+use Rattle.exact.proofs.Cap.{max, cap_is, cap_fits, cap_times}
 
 -- ---- one more division at the end
 product_last : (ds : List ℕ) (d : ℕ) → product (ds ++ (d ∷ [])) ≡ product ds * d
@@ -30,7 +31,12 @@ den_extend (through j h m (whole n) ds) d = ap (λ (x : ℕ). m * x) (product_la
 den_extend (through j h m (part n f) ds) d =
     ap (λ (x : ℕ). m * (8192 * x)) (product_last ds d) ∙ ap (λ (x : ℕ). m * x) (sym (mul_assoc 8192 (product ds) d)) ∙ sym (mul_assoc m (8192 * product ds) d)
 
--- ---- an ON or an enable
+-- ---- an ON or an enable, which stands after its divider
+pub after : (o : Output) → divider o + 1 ≡ enable o
+after P = refl
+after Q = refl
+after R = refl
+
 pub gated_on : (on : ℕ) (c : Chain) → 1 ≤ on → c ≡ gated on c
 gated_on zero c h = absurd (omega arith)
 gated_on (suc on) c h = refl
@@ -54,7 +60,7 @@ module _ (c : Chain) where
   timpre_on (suc t) ppre h = refl
 
 -- ---- an oscillator
-pub oscillator : (h : ℕ) → h ≤ max → Exactly h 1 ≡ reading_of (from_oscillator (runs h))
+pub oscillator : (h : ℕ) → h ≤ max → ◌≡◌ {A = Option Exact} (Some (record { numerator = h; denominator = 1 })) (reading_of (from_oscillator (runs h)))
 unfolding num den
 oscillator h l = rw (← cap_fits h l, ← cap_fits 1 (omega arith))
 
@@ -66,7 +72,7 @@ switched_on (suc on) o h = refl
 pub hsi_off : (div : ℕ) → (div ≡ 1 → ⊥) → (div ≡ 2 → ⊥) → (div ≡ 4 → ⊥) → (div ≡ 8 → ⊥) → hsi_by div ≡ off
 hsi_off div a b c d = rw (ne_eqb div 1 a, ne_eqb div 2 b, ne_eqb div 4 c, ne_eqb div 8 d)
 
-pub never_runs : (on : ℕ) → Nothing ≡ reading_of (from_oscillator (switched on off))
+pub never_runs : (on : ℕ) → None ≡ reading_of (from_oscillator (switched on off))
 never_runs zero = refl
 never_runs (suc on) = refl
 
@@ -88,11 +94,14 @@ module _ (j : PllName) where
       rw (cap_times h (8192 * n + f) (omega arith), cap_times 1 (8192 * suc m) (omega arith), l)
 
 -- ---- a selector past its last clock
-pub past : (cs : List Chain) (w : ℕ) → length cs ≤ w → Nothing ≡ reading_of (get_or cs w none)
+pub past : (cs : List Chain) (w : ℕ) → length cs ≤ w → None ≡ reading_of (get_or cs w none)
 past cs w h = rw (get_or-eq_default cs none h)
 
-pub past_source : (os : List Oscillator) (w : ℕ) → length os ≤ w → Nothing ≡ reading_of (from_oscillator (get_or os w off))
+pub past_source : (os : List Oscillator) (w : ℕ) → length os ≤ w → None ≡ reading_of (from_oscillator (get_or os w off))
 past_source os w h = rw (get_or-eq_default os off h)
 
 pub over_past : (cs : List Chain) (w d : ℕ) → length cs ≤ w → over (get_or cs w none) d ≡ none
 over_past cs w d h = rw (get_or-eq_default cs none h)
+
+-- all of them
+pub ruleset chains = (cap_is, past, past_source, over_past, gated_on, after, over_scaled, one, timpre_on, oscillator, switched_on, hsi_off, never_runs, vco_whole_is, vco_part)

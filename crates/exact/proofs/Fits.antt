@@ -1,5 +1,6 @@
 -- No plan has a number above 64 bits: the fractions of the bank that its whole list leaves of a bank at reset values show as they are.
-use mathlib.Core.Path.{◌≡◌, refl, sym, subst}
+use Rattle.std.specs.Prelude.{Option, Some, None, Ok}
+use mathlib.Core.Path.{◌≡◌, refl, sym, subst, ap}
 use mathlib.Core.Bool.{true, false}
 use mathlib.Core.List.{List, [], ◌∷◌}
 use Prim.Native.Nat.{ℕ, zero, suc, ◌+◌, ◌*◌, ◌/◌, ◌≤◌, ◌<◌}
@@ -8,19 +9,17 @@ use native.Mathlib.Omega.{arith}
 use lib.Dec.{leb}
 use lib.ListN.{get_or}
 use borrow.Author.Tests.{leb-true, leb-false}
-use Rattle.types.specs.declared.Hertz.{Hertz}
-use Rattle.types.specs.declared.Hertz.TheVariants.{Unset, Hz}
 use Rattle.types.specs.declared.Request.{Request}
 use Rattle.types.specs.declared.ChipState.{ChipState}
-use Rattle.types.specs.declared.Answer.TheVariants.{Accepted}
+use Rattle.types.specs.declared.Plan.{Plan}
 use Rattle.laws.proofs.Tests.{by_test, either}
-use Rattle.rules.specs.Document01.Plan.{answer_to}
-use Rattle.rules.specs.Document01.Entries.{entries_of}
+use Rattle.rules.specs.Document01.Plan.{chosen_plan}
+use Rattle.rules.specs.Document01.Entries.{plan_entries}
 use Rattle.rules.specs.Document01.Bank.{apply_all, reset_bank}
 use Rattle.rules.specs.Manual.Path.{PllName, pll1, pll2, Path, num, den, extend}
 use Rattle.rules.specs.Manual.Tree
 use Rattle.rules.specs.Manual.Tree.{Oscillator, off, runs, Chain, none, along, Output, P, Q, R, Clock, sys, hclk, pclk1, pclk2, pclk3, timx, timy, per, hsi, csi, hsi48, lsi, hse, mco1, mco2, output, number, divider, enable, word, pll_word, from_oscillator, switched, gated, over, among, vco_by, timer_by, path_of}
-use Rattle.exact.specs.declared.Reading.TheVariants.{Exactly}
+use Rattle.exact.specs.declared.Exact.{Exact}
 use Rattle.rules.specs.Manual.Tree.{fed_by}
 use Rattle.rules.proofs.Manual.Codes.{by_timer}
 use Rattle.exact.specs.Exact.{cap, reading_of}
@@ -54,13 +53,22 @@ wider l (path h k) = path h (le_trans k l)
 abbrev outputs : ℕ
 outputs = 63 * 8192 * 128
 
+-- the two numbers that show
+abbrev num_shown : Option Exact → ℕ
+num_shown None = 0
+num_shown (Some x) = x.numerator
+
+abbrev den_shown : Option Exact → ℕ
+den_shown None = 0
+den_shown (Some x) = x.denominator
+
 over_small : {e d : ℕ} {c : Chain} (m : ℕ) → m ≤ d → Small e c → Small (e * d) (over c m)
 over_small m l nothing = nothing
 over_small zero l (path h k) = nothing
 over_small (suc m) l (path {p} h k) =
     let e = over_scaled (along p) (suc m) (omega arith) in
-    let n : cap (num (extend p (suc m))) ≡ cap (cap (num p) * 1) = cc in
-    let d : cap (den (extend p (suc m))) ≡ cap (cap (den p) * suc m) = cc in
+    let n : cap (num (extend p (suc m))) ≡ cap (cap (num p) * 1) = sym (ap num_shown e) in
+    let d : cap (den (extend p (suc m))) ≡ cap (cap (den p) * suc m) = sym (ap den_shown e) in
     path {p = extend p (suc m)} (rw n (cap_most (cap (num p) * 1) (omega arith))) (rw d (cap_most (cap (den p) * suc m) (mul-le-mul k l)))
 
 gated_small : {d : ℕ} (on : ℕ) {c : Chain} → Small d c → Small d (gated on c)
@@ -196,17 +204,21 @@ shows n h l =
     (λ (t : leb n max ≡ true). sym (cap_fits n (leb-true n max t)))
     (λ (f : leb n max ≡ false). absurd (let g = leb-false n max f in omega (arith, cap_full n (omega arith))))
 
-both_show : {p : Path} → Small (outputs * 512 * 16) (along p) → reading_of (along p) ≡ Exactly (num p) (den p)
+-- a clock that shows as these two numbers
+abbrev pub exactly : ℕ → ℕ → Option Exact
+exactly n d = Some (record { numerator = n; denominator = d })
+
+both_show : {p : Path} → Small (outputs * 512 * 16) (along p) → reading_of (along p) ≡ exactly (num p) (den p)
 both_show (path {p} h k) = rw (shows (num p) h (omega arith), shows (den p) k (omega arith))
 
 -- no plan has a number above 64 bits: the tree's exact fractions of the bank that its list leaves show as they are
 pub no_plan_is_capped :
-    (q : Request) (c : ChipState) → (answer_to q c).answer ≡ Accepted → ((h : ℕ) → q.hse ≡ Hz h → h < 4_294_967_296) →
-    (k : Clock) (p : Path) → path_of (apply_all (entries_of (answer_to q c)) reset_bank) (fed_by q.hse) k ≡ along p →
-    reading_of (along p) ≡ Exactly (num p) (den p)
-no_plan_is_capped q c a h k p e =
-    both_show (subst (Small (outputs * 512 * 16)) e (clock_small _ (fed_by q.hse) (plan_within q c a) (fed_slow q.hse h) k))
+    (q : Request) (c : ChipState) (x : Plan) → chosen_plan q c ≡ Ok x → ((h : ℕ) → q.hse ≡ Some h → h < 4_294_967_296) →
+    (k : Clock) (p : Path) → path_of (apply_all (plan_entries x) reset_bank) (fed_by q.hse) k ≡ along p →
+    reading_of (along p) ≡ exactly (num p) (den p)
+no_plan_is_capped q c x a h k p e =
+    both_show (subst (Small (outputs * 512 * 16)) e (clock_small _ (fed_by q.hse) (plan_within q c x a) (fed_slow q.hse h) k))
   where
-    fed_slow : (x : Hertz) → ((h : ℕ) → x ≡ Hz h → h < 4_294_967_296) → Slow (fed_by x)
-    fed_slow Unset l = stopped
-    fed_slow (Hz h) l = slow (l h refl)
+    fed_slow : (x : Option ℕ) → ((h : ℕ) → x ≡ Some h → h < 4_294_967_296) → Slow (fed_by x)
+    fed_slow None l = stopped
+    fed_slow (Some h) l = slow (l h refl)

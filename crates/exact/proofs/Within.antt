@@ -1,4 +1,5 @@
 -- In the bank that a plan's whole list leaves of a bank at reset values, M, N, FRACN, dividers and prescalers are at most what the rules choose.
+use Rattle.std.specs.Prelude.{Option, Some, None, Ok, unwrap_or}
 use mathlib.Core.Path.{◌≡◌, refl, ap, subst}
 use mathlib.Core.Bool.{Bool, true, false, cond, not, ◌&&◌, ◌||◌}
 use mathlib.Core.List.{List, [], ◌∷◌, ◌++◌}
@@ -7,34 +8,26 @@ use native.Mathlib.Omega.{arith}
 use lib.Dec.{leb, ltb, eqb}
 use lib.ListN.{set, get_or, replicate}
 use borrow.Author.Tests.{leb-true, le-leb, lt-ltb}
-use Rattle.types.specs.declared.Hertz.{Hertz}
-use Rattle.types.specs.declared.Hertz.TheVariants.{Unset, Hz}
 use Rattle.types.specs.declared.Strategy.{Strategy}
 use Rattle.types.specs.declared.Strategy.TheVariants.{Integer, Fractional}
 use Rattle.types.specs.declared.Request.{Request}
 use Rattle.types.specs.declared.ChipState.{ChipState}
 use Rattle.types.specs.declared.PllOutput.{PllOutput}
-use Rattle.types.specs.declared.PllOutput.TheVariants.{Off, On}
-use Rattle.types.specs.declared.Fraction.{Fraction}
-use Rattle.types.specs.declared.Fraction.TheVariants.{Whole, Part}
 use Rattle.types.specs.declared.PllRequest.{PllRequest}
 use Rattle.types.specs.declared.PllSettings.{PllSettings}
-use Rattle.types.specs.declared.Pll.{Pll}
-use Rattle.types.specs.declared.Pll.TheVariants.{Idle, Runs}
 use Rattle.types.specs.declared.Plan.{Plan}
-use Rattle.types.specs.declared.Answer.TheVariants.{Accepted}
 use Rattle.types.specs.declared.Entry.{Entry}
 use Rattle.types.specs.declared.Entry.TheVariants.{Set, Set2, Set3, Set4, Wait, Wait2, Check, Read}
 use Rattle.types.specs.declared.Refusal.TheVariants.{BusZero, AhbZero, McoZero, McoRatio}
 use Rattle.laws.proofs.Tests.{and_left, and_right, at_each}
-use Rattle.rules.specs.Document01.Result.{Result, refused, ok, require}
-use Rattle.rules.specs.Document01.Hertz.{ratio_of, hertz_or, not_zero}
+use Rattle.rules.specs.Document01.Result.{require}
+use Rattle.rules.specs.Document01.Hertz.{ratio_of, not_zero}
 use Rattle.rules.specs.Document01.Request.{source_of, asked_of}
 use Rattle.rules.specs.Document01.OnePll.{first_of, p_clock, q_clock, pll_from}
 use Rattle.rules.specs.Document01.Buses.{hpre_for, ahb_of, apb_of}
 use Rattle.rules.specs.Document01.Mco.{mco1_input, mco2_input, mco_of}
-use Rattle.rules.specs.Document01.Plan.{plls_of, hsi_ready, system_from, buses_of, mcos_of, plan_with, chosen_plan, answered, answer_to}
-use Rattle.rules.specs.Document01.Entries.{output_entries, fraction_entries, base_entries, setting_entries, setup_entries, pll_in, clock_entries, bit, hse_entries, source_entries, output_start, start_entries, bus_entries, plan_entries, entries_of, list_with}
+use Rattle.rules.specs.Document01.Plan.{plls_of, hsi_ready, system_from, buses_of, mcos_of, plan_with, chosen_plan}
+use Rattle.rules.specs.Document01.Entries.{output_entries, fraction_entries, base_entries, setting_entries, setup_entries, pll_in, clock_entries, bit, hse_entries, source_entries, output_start, start_entries, bus_entries, plan_entries, list_with}
 use Rattle.rules.specs.Document01.Bank.{apply_all, reset_bank}
 use Rattle.rules.specs.Manual.Path.{PllName, pll1, pll2, pll3}
 use Rattle.rules.specs.Manual.Tree.{number, word}
@@ -47,7 +40,6 @@ use Rattle.types.specs.declared.Bus.{Bus}
 use Rattle.types.specs.declared.Mco.{Mco}
 use Rattle.types.specs.declared.Buses.{Buses}
 use Rattle.types.specs.declared.Mcos.{Mcos}
-use Rattle.types.specs.declared.PllPlan.{PllPlan}
 use Rattle.rules.specs.Document01.Chip.{odd_at}
 
 -- ---- the highest value of a field, 0 where any will do. A PLL's: M, N − 1, FRACN and the dividers − 1
@@ -144,22 +136,22 @@ module _ (j : PllName) where
   own i v l h w = put (15 * number j + i) v (rw (own_limit i l) h) w
 
   -- a divider and its enable
-  output_keeps : (i vco : ℕ) (r : Hertz) (o : PllOutput) → i < 14 → ((v : ℕ) → v ≤ 127 → under (pll_limit i) v ≡ true)
+  output_keeps : (i vco : ℕ) (r : Option ℕ) (o : Option PllOutput) → i < 14 → ((v : ℕ) → v ≤ 127 → under (pll_limit i) v ≡ true)
       → ((v : ℕ) → under (pll_limit (suc i)) v ≡ true) → LegalOutput vco r o → Keeps (output_entries (15 * number j + i) (15 * number j + suc i) o)
-  output_keeps i vco r Off l h f g = by λ b w. own (suc i) 0 (omega arith) (f 0) w
-  output_keeps i vco Unset (On d c) l h f g = absurd g
-  output_keeps i vco (Hz r) (On d c) l h f g = by λ b w. own (suc i) 1 (omega arith) (f 1) (own i (d - 1) (omega arith) (h (d - 1) g.field) w)
+  output_keeps i vco r None l h f g = by λ b w. own (suc i) 0 (omega arith) (f 0) w
+  output_keeps i vco None (Some o) l h f g = absurd g
+  output_keeps i vco (Some r) (Some o) l h f g = by λ b w. own (suc i) 1 (omega arith) (f 1) (own i (o.divider - 1) (omega arith) (h (o.divider - 1) g.field) w)
 
-  fraction_keeps : (t : Strategy) (source first : ℕ) (s : PllSettings) (x : Fraction) → LegalVco t source first s x → Keeps (fraction_entries (number j) x)
-  fraction_keeps t source first s Whole l = by λ b w. w
-  fraction_keeps Integer source first s (Part f) l = absurd l
-  fraction_keeps Fractional source first s (Part f) l =
+  fraction_keeps : (t : Strategy) (source first : ℕ) (s : PllSettings) (x : Option ℕ) → LegalVco t source first s x → Keeps (fraction_entries (number j) x)
+  fraction_keeps t source first s None l = by λ b w. w
+  fraction_keeps Integer source first s (Some f) l = absurd l
+  fraction_keeps Fractional source first s (Some f) l =
       by λ b w. own 5 1 (omega arith) refl (own 5 0 (omega arith) refl (own 4 f (omega arith) (le-leb f 8191 l.field) w))
 
-  setup_keeps : (odd : Bool) (source : ℕ) (a : PllRequest) (x : Pll) → LegalPll odd source a x → Keeps (setup_entries (number j) x)
+  setup_keeps : (odd : Bool) (source : ℕ) (a : PllRequest) (x : Option PllSettings) → LegalPll odd source a x → Keeps (setup_entries (number j) x)
   unfolding setting_entries
-  setup_keeps odd source a Idle l = by λ b w. w
-  setup_keeps odd source a (Runs s) l =
+  setup_keeps odd source a None l = by λ b w. w
+  setup_keeps odd source a (Some s) l =
       let base : Keeps (base_entries (number j) s) =
       by λ b w. own 3 (s.n - 1) (omega arith) (le-leb _ 511 l.n.to) (own 2 s.m (omega arith) (le-leb _ 63 l.m.to)
       (own 1 s.rge (omega arith) refl (own 0 s.vcosel (omega arith) refl w))) in
@@ -168,17 +160,17 @@ module _ (j : PllName) where
       then output_keeps 8 s.vco a.q s.q (omega arith) (λ v. le-leb v 127) (λ v. refl) l.q
       then output_keeps 10 s.vco a.r s.r (omega arith) (λ v. le-leb v 127) (λ v. refl) l.r
 
-  third_keeps : (three odd : Bool) (source : ℕ) (a : PllRequest) (x : Pll) → LegalThird three odd source a x → Keeps (setup_entries (number j) x)
+  third_keeps : (three odd : Bool) (source : ℕ) (a : PllRequest) (x : Option PllSettings) → LegalThird three odd source a x → Keeps (setup_entries (number j) x)
   third_keeps true odd source a x l = setup_keeps odd source a x l
   third_keeps false odd source a x l = rw l (by λ b w. w)
 
-  start_keeps : (x : Pll) → Keeps (start_entries (number j) x)
-  start_keeps Idle = by λ b w. w
-  start_keeps (Runs s) = go s.p
+  start_keeps : (x : Option PllSettings) → Keeps (start_entries (number j) x)
+  start_keeps None = by λ b w. w
+  start_keeps (Some s) = go s.p
     where
-      go : (o : PllOutput) → Keeps (output_start (number j) o)
-      go Off = by λ b w. w
-      go (On d h) = by λ b w. own 13 1 (omega arith) refl w
+      go : (o : Option PllOutput) → Keeps (output_start (number j) o)
+      go None = by λ b w. w
+      go (Some o) = by λ b w. own 13 1 (omega arith) refl w
 
 -- ---- the divisors that the rules choose
 abbrev BusMost : ℕ → Bus → Type 0
@@ -193,20 +185,20 @@ BusesMost b = BusMost 512 b.ahb × BusMost 16 b.apb1 × BusMost 16 b.apb2 × Bus
 abbrev McosMost : Mcos → Type 0
 McosMost m = McoMost m.mco1 × McoMost m.mco2
 
-ahb_most : (system : ℕ) (h : Hertz) → Holds (BusMost 512) (ahb_of system h)
+ahb_most : (system : ℕ) (h : Option ℕ) → Holds (BusMost 512) (ahb_of system h)
 unfolding ahb_of
 ahb_most system h =
     holds_next (BusMost 512) (require (not_zero h) BusZero) _
-    (holds_next (BusMost 512) (require (not (eqb (system / hpre_for system h) 0)) AhbZero) _ (hpre_most (ratio_of system (hertz_or h system))))
+    (holds_next (BusMost 512) (require (not (eqb (system / hpre_for system h) 0)) AhbZero) _ (hpre_most (ratio_of system (unwrap_or h system))))
 
-apb_most : (ahb : ℕ) (h : Hertz) → Holds (BusMost 16) (apb_of ahb h)
+apb_most : (ahb : ℕ) (h : Option ℕ) → Holds (BusMost 16) (apb_of ahb h)
 unfolding apb_of
-apb_most ahb h = holds_next (BusMost 16) (require (not_zero h) BusZero) _ (ppre_most (ratio_of ahb (hertz_or h ahb)))
+apb_most ahb h = holds_next (BusMost 16) (require (not_zero h) BusZero) _ (ppre_most (ratio_of ahb (unwrap_or h ahb)))
 
-mco_most : (clock : ℕ) (h : Hertz) → Holds McoMost (mco_of clock h)
+mco_most : (clock : ℕ) (h : Option ℕ) → Holds McoMost (mco_of clock h)
 unfolding mco_of
-mco_most clock Unset = omega arith
-mco_most clock (Hz h) =
+mco_most clock None = omega arith
+mco_most clock (Some h) =
     let r = ratio_of clock h in
     holds_next McoMost (require (not (eqb h 0)) McoZero) _
     (holds_tested McoMost (leb 1 r && leb r 15) McoRatio _ (λ t. leb-true r 15 (and_right (leb 1 r) _ t)))
@@ -219,7 +211,7 @@ buses_most q system =
     (λ x i. holds_known BusesMost (BusMost 16) (apb_of b.clock q.apb2) _ (apb_most b.clock q.apb2)
     (λ y j. holds_known BusesMost (BusMost 16) (apb_of b.clock q.apb3) _ (apb_most b.clock q.apb3) (λ z k. (h, i, j, k)))))
 
-mcos_most : (q : Request) (l : List PllPlan) (system : ℕ) → Holds McosMost (mcos_of q l system)
+mcos_most : (q : Request) (l : List (Option PllSettings)) (system : ℕ) → Holds McosMost (mcos_of q l system)
 unfolding mcos_of
 mcos_most q l system =
     holds_then McosMost (mco1_input q.mco1source q.hse (q_clock (pll_from l 0))) _
@@ -234,9 +226,9 @@ module _ (p : Plan) where
   clocks_keep h i =
       fitting _ (rw (le-leb p.mcos.mco1.pre 15 h, le-leb p.mcos.mco2.pre 15 i))
 
-  hse_keeps : (x : Hertz) → Keeps (hse_entries x p.bypass)
-  hse_keeps Unset = by λ b w. w
-  hse_keeps (Hz h) = by λ b w. put 59 (bit p.bypass) refl (put 58 1 refl w)
+  hse_keeps : (x : Option ℕ) → Keeps (hse_entries x p.bypass)
+  hse_keeps None = by λ b w. w
+  hse_keeps (Some h) = by λ b w. put 59 (bit p.bypass) refl (put 58 1 refl w)
 
   source_keeps : (three : Bool) → Keeps (source_entries three p.selectors.src)
   source_keeps true = by λ b w. put 42 p.selectors.src refl (put 27 p.selectors.src refl (put 12 p.selectors.src refl w))
@@ -269,10 +261,5 @@ plan_keeps q c p l h =
     then h.0 then hse_keeps p p.clocks.hse then source_keeps p p.three
     then (start_keeps pll1 (pll_in p 0) then start_keeps pll2 (pll_in p 1) then start_keeps pll3 (pll_in p 2)) then h.1
 
-pub plan_within : (q : Request) (c : ChipState) → (answer_to q c).answer ≡ Accepted → Within (apply_all (entries_of (answer_to q c)) reset_bank)
-unfolding entries_of answer_to
-plan_within q c a = rw a (after_reset (plan_keeps q c _ (plan_legal q c a) (go (chosen_plan q c) (chosen_keep q c) a)))
-  where
-    go : (x : Result Plan) → Holds BusesKeep x → (answered x).answer ≡ Accepted → BusesKeep (answered x).plan
-    go (refused n) h e = absurd (let z : ◌≡◌ {A = ℕ} 0 1 = cc in omega arith)
-    go (ok p) h e = h
+pub plan_within : (q : Request) (c : ChipState) (p : Plan) → chosen_plan q c ≡ Ok p → Within (apply_all (plan_entries p) reset_bank)
+plan_within q c p e = after_reset (plan_keeps q c p (plan_legal q c p e) (subst (Holds BusesKeep) e (chosen_keep q c)))

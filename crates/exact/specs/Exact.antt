@@ -1,9 +1,8 @@
 -- What is read of one clock, by document 01, 'The clock tree'.
-use Rattle.std.specs.Prelude.{cond, List, [], ◌∷◌, ℕ, ◌*◌, leb, get_or}
+use Rattle.std.specs.Prelude.{cond, List, [], ◌∷◌, ℕ, ◌*◌, ◌/◌, eqb, leb, get_or, Option, Some, None}
 use Rattle.rules.specs.Manual.Path.{num, den, pll1, pll2, pll3}
-use Rattle.rules.specs.Manual.Tree.{Oscillator, Chain, none, along, P, Q, R, sys, hclk, pclk1, pclk2, pclk3, timx, timy, per, hsi, csi, hsi48, lsi, hse, mco1, mco2, output, path_of}
-use Rattle.exact.specs.declared.Reading.{Reading}
-use Rattle.exact.specs.declared.Reading.TheVariants.{Nothing, Exactly}
+use Rattle.rules.specs.Manual.Tree.{Oscillator, Chain, none, along, P, Q, R, sys, hclk, pclk1, pclk2, pclk3, timx, timy, per, hsi, csi, hsi48, lsi, hse, mco1, mco2, output, path_of, among}
+use Rattle.exact.specs.declared.Exact.{Exact}
 
 -- the clocks of the report in its order (docs/CODES.md, The C functions). 'LSE gives none'; audio is no clock of the tree
 unfoldable pub clocks_by : List ℕ → Oscillator → List Chain
@@ -24,12 +23,19 @@ unfoldable pub cap : ℕ → ℕ
 cap n = cond (leb n 18_446_744_073_709_551_615) n 18_446_744_073_709_551_615
 
 -- 'exact fractions, each as two whole numbers'; 'what comes from no clock has none'
-abbrev pub reading_of : Chain → Reading
-reading_of none = Nothing
-reading_of (along p) = Exactly (cap (num p)) (cap (den p))
+abbrev pub reading_of : Chain → Option Exact
+reading_of none = None
+reading_of (along p) = Some (record { numerator = cap (num p); denominator = cap (den p) })
+
+-- a timer's one division, by TIMPRE and PPRE; 0 for a PPRE other than 1, 2, 4, 8, 16
+abbrev pub timer_divisor : (timpre ppre : ℕ) → ℕ
+timer_divisor t p =
+    cond (eqb t 0)
+    (cond (among (1 ∷ 2 ∷ []) p) 1 (cond (among (4 ∷ 8 ∷ 16 ∷ []) p) (p / 2) 0))
+    (cond (among (1 ∷ 2 ∷ 4 ∷ []) p) 1 (cond (among (8 ∷ 16 ∷ []) p) (p / 4) 0))
 
 -- ---- for the private functions
 -- a clock times a / b, of the two numbers as they show
-abbrev pub scaled_by : Reading → ℕ → ℕ → Reading
-scaled_by Nothing a b = Nothing
-scaled_by (Exactly n d) a b = Exactly (cap (n * a)) (cap (d * b))
+abbrev pub scaled_by : Option Exact → ℕ → ℕ → Option Exact
+scaled_by None a b = None
+scaled_by (Some e) a b = Some (record { numerator = cap (e.numerator * a); denominator = cap (e.denominator * b) })

@@ -7,57 +7,55 @@ ghost use Rattle.rules.specs.Manual.Tree.{fed_by};
 ghost use Rattle.exact.specs.Exact.{reading_of};
 
 use crate::oscillators::{CSI, fixed, hse, hsi};
-use crate::{Reading, pll, steps};
-use fields::{CKPERSEL, CSION, HPRE, SW, TIMPRE, word};
-use types::Hertz;
+use crate::{Exact, pll, steps};
+use fields::{CKPERSEL, CSION, HPRE, P, SW, TIMPRE, word};
 
 // SW: 0 HSI, 1 CSI, 2 HSE, 3 PLL1 P.
-pub fn sys(bank: &[u32], fed: Hertz) -> Reading
+#[tactic(auto, using(crate::proofs::Chains::chains), unfolding(rules::specs::Manual::Tree::sys_of, rules::specs::Manual::Tree::csi_of))]
+pub fn sys(bank: &[u32], fed: Option<u32>) -> Option<Exact>
     ensures { result ≡ reading_of (Tree.sys_of bank.now (fed_by fed)) }
 {
-    let sw = word(bank, SW);
-    match sw {
+    match word(bank, SW) {
         0 => hsi(bank),
         1 => fixed(bank, CSION, CSI),
         2 => hse(bank, fed),
-        3 => pll::output(bank, fed, 0, pll::P),
-        _ => Reading::Nothing,
+        3 => pll::output(bank, fed, 0, P),
+        _ => None,
     }
 }
 
 // A clock divided by a word of the bank; none by 0.
-pub fn divided(bank: &[u32], clock: Reading, f: usize) -> Reading
+pub fn divided(bank: &[u32], clock: Option<Exact>, f: usize) -> Option<Exact>
     ensures { (c : Chain) → clock ≡ reading_of c → result ≡ reading_of (Tree.over c (word_of bank.now f)) }
 {
-    let d = word(bank, f);
-    steps::over(clock, d as u64)
+    steps::over(clock, word(bank, f) as u64)
 }
 
 // AHB = system / HPRE.
-pub fn ahb(bank: &[u32], fed: Hertz) -> Reading
+#[tactic(auto, using(crate::proofs::Chains::chains), unfolding(rules::specs::Manual::Tree::ahb_of))]
+pub fn ahb(bank: &[u32], fed: Option<u32>) -> Option<Exact>
     ensures { result ≡ reading_of (Tree.ahb_of bank.now (fed_by fed)) }
 {
     divided(bank, sys(bank, fed), HPRE)
 }
 
 // The timers on the APB of this PPRE.
-pub fn timer(bank: &[u32], fed: Hertz, ppre: usize) -> Reading
+pub fn timer(bank: &[u32], fed: Option<u32>, ppre: usize) -> Option<Exact>
     ensures { result ≡ reading_of (Tree.timer_by (word_of bank.now Fields.TIMPRE) (word_of bank.now ppre) (Tree.ahb_of bank.now (fed_by fed))) }
 {
-    let timpre = word(bank, TIMPRE);
-    let pre = word(bank, ppre);
-    steps::over(ahb(bank, fed), steps::timer_divisor(timpre, pre) as u64)
+    let divisor = steps::timer_divisor(word(bank, TIMPRE), word(bank, ppre));
+    steps::over(ahb(bank, fed), divisor as u64)
 }
 
 // CKPERSEL: 0 HSI, 1 CSI, 2 HSE.
-pub fn per(bank: &[u32], fed: Hertz) -> Reading
+#[tactic(auto, using(crate::proofs::Chains::chains), unfolding(rules::specs::Manual::Tree::per_of, rules::specs::Manual::Tree::csi_of))]
+pub fn per(bank: &[u32], fed: Option<u32>) -> Option<Exact>
     ensures { result ≡ reading_of (Tree.per_of bank.now (fed_by fed)) }
 {
-    let sel = word(bank, CKPERSEL);
-    match sel {
+    match word(bank, CKPERSEL) {
         0 => hsi(bank),
         1 => fixed(bank, CSION, CSI),
         2 => hse(bank, fed),
-        _ => Reading::Nothing,
+        _ => None,
     }
 }

@@ -6,11 +6,10 @@ ghost use Rattle.rules.specs.Manual.Tree.{fed_by};
 ghost use Rattle.exact.specs.Exact.{path_by, reading_of};
 
 use buses::{ahb, divided, per, sys, timer};
-use fields::{CSION, HSI48ON, LSION, MCO1PRE, MCO2PRE, PPRE1, PPRE2, PPRE3};
+use fields::{CSION, HSI48ON, LSION, MCO1PRE, MCO2PRE, P, PPRE1, PPRE2, PPRE3, Q, R};
 use mco::{mco1_source, mco2_source};
 use oscillators::{CSI, HSI48, LSI, fixed, hsi};
-use pll::{P, Q, R, output};
-use types::Hertz;
+use pll::output;
 
 mod buses;
 mod mco;
@@ -18,15 +17,18 @@ mod oscillators;
 mod pll;
 mod steps;
 
-// No clock, or the numerator and the denominator of its hertz. A number that does not fit 64 bits shows as 2^64 − 1.
+pub use steps::timer_divisor;
+
+// The numerator and the denominator of a clock's hertz. A number that does not fit 64 bits shows as 2^64 − 1.
 #[derive(Clone, Copy)]
-pub enum Reading {
-    Nothing,
-    Exactly(u64, u64),
+pub struct Exact {
+    pub numerator: u64,
+    pub denominator: u64,
 }
 
-// The clock at this number of the report: docs/CODES.md, The C functions. LSE and audio have no path in the tree.
-pub fn clock_reading(bank: &[u32], hse: Hertz, clock: usize) -> Reading
+// The clock at this number of the report, where it comes from one: docs/CODES.md, The C functions. LSE and audio have no path in the tree.
+#[tactic(auto, using(crate::proofs::Chains::chains), unfolding(crate::specs::Exact::clocks_by, rules::specs::Manual::Tree::path_of, rules::specs::Manual::Tree::csi_of, rules::specs::Manual::Tree::hsi48_of, rules::specs::Manual::Tree::lsi_of))]
+pub fn clock_reading(bank: &[u32], hse: Option<u32>, clock: usize) -> Option<Exact>
     ensures { result ≡ reading_of (path_by bank.now (fed_by hse) clock) }
 {
     match clock {
@@ -43,8 +45,7 @@ pub fn clock_reading(bank: &[u32], hse: Hertz, clock: usize) -> Reading
         10 => fixed(bank, HSI48ON, HSI48),
         11 => fixed(bank, LSION, LSI),
         12 => oscillators::hse(bank, hse),
-        13 => Reading::Nothing,
-        14 => Reading::Nothing,
+        13 | 14 => None,
         15 => divided(bank, mco1_source(bank, hse), MCO1PRE),
         16 => divided(bank, mco2_source(bank, hse), MCO2PRE),
         17 => output(bank, hse, 0, P),
@@ -56,6 +57,6 @@ pub fn clock_reading(bank: &[u32], hse: Hertz, clock: usize) -> Reading
         23 => output(bank, hse, 2, P),
         24 => output(bank, hse, 2, Q),
         25 => output(bank, hse, 2, R),
-        _ => Reading::Nothing,
+        _ => None,
     }
 }

@@ -9,7 +9,3 @@ use Rattle.rules.specs.Document01.Bank.{apply_one, apply_all}
 pub apply_append : (s t : List Entry) (b : List ℕ) → apply_all (s ++ t) b ≡ apply_all t (apply_all s b)
 apply_append [] t b = refl
 apply_append (e ∷ s) t b = apply_append s t (apply_one e b)
-
--- the same by what each list left
-pub joined : (s t : List Entry) (a : List ℕ) {b c : List ℕ} → b ≡ apply_all s a → c ≡ apply_all t b → c ≡ apply_all (s ++ t) a
-joined s t a p q = rw (apply_append s t a) (rw p at q)

@@ -1,3 +1,1 @@
 pub mod Join
-pub mod Tails
-pub mod Stores

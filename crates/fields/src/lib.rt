@@ -2,7 +2,8 @@
 // a bank at reset values.
 #![tactic(auto)]
 
-ghost use Rattle.std.specs.Prelude.{◌≡◌, set, ◌-◌};
+ghost use Rattle.std.specs.Prelude.{◌≡◌, set, ◌-◌, ◌<◌};
+ghost use Rattle.rules.specs.Document01.Fields.{of_pll};
 ghost use Rattle.rules.specs.Document01.Entries.{prften_of, bit};
 ghost use Rattle.rules.specs.Document01.Bank.{reset_bank};
 ghost use Rattle.rules.specs.Manual.Tree.{word as word_of};
@@ -115,28 +116,37 @@ pub const ACTVOSRDY: usize = 80;
 
 pub const VOSRDY: usize = 81;
 
+// A field of PLL k.
+pub fn of_pll(k: usize, field: usize) -> usize
+    requires { (k < 3) × (field < 15) }
+    ensures { result ≡ of_pll k field }
+{
+    15 * k + field
+}
+
 // N − 1, and divider − 1 for P, Q and R; 0 of 0.
 pub fn less_one(x: u32) -> u32
     ensures { result ≡ x - 1 }
 {
-    if x == 0 { 0 } else { x - 1 }
+    x.saturating_sub(1)
 }
 
 // PRFTEN: 1 if latency is above 0.
 pub fn prften(latency: u32) -> u32
     ensures { result ≡ prften_of latency }
 {
-    if 0 < latency { 1 } else { 0 }
+    (0 < latency) as u32
 }
 
 // HSEBYP: 1 with bypass.
 pub fn bit_of(b: bool) -> u32
     ensures { result ≡ bit b }
 {
-    if b { 1 } else { 0 }
+    b as u32
 }
 
-// The word of a field; 0 where a bank has none.
+// The word of a field; 0 where a bank has none. Not by `get`: an Option of a reference is compiled to a form that scripts/firmware does not take
+// to a 32-bit target.
 pub fn word(words: &[u32], f: usize) -> u32
     ensures { result ≡ word_of words.now f }
 {
@@ -157,6 +167,7 @@ pub fn put(f: usize, v: u32, bank: &mut [u32])
 }
 
 // A bank at reset values.
+#[tactic(auto, unfolding(rules::specs::Document01::Bank::reset_bank))]
 pub fn reset_bank() -> [u32; 82]
     ensures { result ≡ reset_bank }
 {

@@ -1,8 +1,8 @@
 -- The whole part of an f32, from its bit pattern: a field k + 1 and 23 digits, which under a leading one are q. The f32 is q × 2 ^ (k - 149).
-use Rattle.std.proofs.Common.{◌≡◌, ℕ, zero, suc, ◌+◌, ◌-◌, ◌*◌, ◌/◌, ◌%◌, ◌^◌, ◌<◌, ◌≤◌, min, Bool, true, false, not, ◌&&◌, ◌||◌, T, eqb, ltb, leb, ℤ, pos, negsuc, sym, ap, ◌∙◌, subst, le_trans, le_of_eq, lt_of_lt_of_le, lt_of_le_of_lt, lt_irrefl, mul-le-mul_right, mul_assoc, mul_comm, div-lt_iff_lt-mul, mul-lt-mul_of_pos_right, mul-pos, lt_of_not-le, le-div_iff_mul-le, mul_right_comm, div-one, arith, lit≤, ltb→lt, pow_pos, pow_mono, pow-add, shl_lt, shl_exact, shr-shr, ltb-true}
+use Rattle.std.proofs.Common.{◌≡◌, ℕ, zero, suc, ◌+◌, ◌-◌, ◌*◌, ◌/◌, ◌%◌, ◌^◌, ◌<◌, ◌≤◌, min, Bool, true, false, ◌&&◌, ◌||◌, T, eqb, ltb, leb, ℤ, pos, negsuc, sym, ap, ◌∙◌, subst, le_trans, le_of_eq, lt_of_lt_of_le, lt_of_le_of_lt, lt_irrefl, mul-le-mul_right, mul_assoc, mul_comm, div-lt_iff_lt-mul, mul-lt-mul_of_pos_right, mul-pos, lt_of_not-le, le-div_iff_mul-le, mul_right_comm, div-one, arith, lit≤, ltb→lt, pow_pos, pow_mono, pow-add, shl_lt, shl_exact, shr-shr, ltb-true}
 use native.Mathlib.Nat.{div-div-eq-div-mul}
 use lib.Pow.{shl-shr}
-use lib.Ieee.{Float, nan, inf, fin, binary32, up, down, size, fits, is_nan, lt, le, to_bits, to_unsigned}
+use lib.Ieee.{Float, nan, inf, fin, binary32, up, down, size, fits, lt, le, to_bits, to_unsigned}
 use lib.Ieee.Digits.{size-lt, size_reaches, size-le}
 use lib.Ieee.Fits.{kept-lt, and_l, and_r}
 use lib.Ieee.Nearest.{div_same}
@@ -144,19 +144,10 @@ shape l h x H w =
     more : (s : ℕ) → s ≤ h + 149 → s - 24 ≤ h + 125
     more s k = omega arith
 
-no_nan : (x : Float) → T (positive x) → T (not (is_nan x))
-unfolding is_nan
-no_nan nan p = absurd p
-no_nan (inf s) p = absurd p
-no_nan (fin s m e) p = tt
-
 -- ---- from 1 to below 2 ^ 24: the field is 127 to 150, and the digits go down
 module _ (x : Float) (a : le (power 0) x ≡ true) (c : lt x (power 24) ≡ true) where
   z : Shape 0 24 x
   z = shape 0 24 x (lit≤ tt) (within 0 24 x a c)
-
-  pub down_real : T (not (is_nan x))
-  down_real = no_nan x z.sign
 
   pub down_from : to_bits binary32 x / 2 ^ 23 ≤ 150
   down_from = go (to_bits binary32 x / 2 ^ 23) (gone (units x)) z.exponent z.most
@@ -228,9 +219,6 @@ none_lost (fin false (suc m) (pos j)) f p h =
 module _ (x : Float) (F : T (fits binary32 x)) (a : le (power 24) x ≡ true) (c : lt x (power 32) ≡ true) where
   z' : Shape 24 32 x
   z' = shape 24 32 x (lit≤ tt) (within 24 32 x a c)
-
-  pub up_real : T (not (is_nan x))
-  up_real = no_nan x z'.sign
 
   pub up_from : 150 ≤ to_bits binary32 x / 2 ^ 23
   up_from = go (to_bits binary32 x / 2 ^ 23) (gone (units x)) z'.exponent z'.least

@@ -9,8 +9,6 @@ ghost use Rattle.ieee754.specs.Steps.{float, fracn_of, vco_of};
 ghost use Rattle.ieee754.specs.Whole.{fracn_for, vco_whole};
 ghost use Rattle.rules.specs.Document01.OnePll.{taken, fracn_from};
 
-use types::Fracn;
-
 // The f32 nearest to n, a tie to the even one: the Rust's `n as f32`.
 fn to_f32(n: u32) -> f32
     ensures { result ≡ Ieee.of_int binary32 (pos n) }
@@ -52,7 +50,7 @@ fn cut_up(x: f32) -> u32
 }
 
 // x cut to a u32, to the nearest end where it is out of range, 0 for a NaN: the Rust's `x as u32`. A VCO is mostly above 2^24,
-// which is tested first.
+// which is tested first. std's saturating_f32_to_u32 goes by f64, of which a Cortex-M33 has no instructions.
 fn cut_u32(x: f32) -> u32
     ensures { result ≡ Ieee.to_unsigned 32 x }
 {
@@ -79,25 +77,25 @@ pub struct FracnInput {
 
 // FRACN = 8192 × ((output × divider) / reference − N), cut down. Outside 0 to 8191, a NaN included, it is out of range, which is refusal 13.
 // Below 1 it is 0.
-pub fn calc_fracn(i: FracnInput) -> Fracn
+pub fn calc_fracn(i: FracnInput) -> Option<u16>
     ensures steps { result ≡ fracn_of i.reference i.n i.divider i.output }
     ensures rules { taken result ≡ fracn_from i.reference i.n i.divider i.output }
 {
     let f = 8192.0 * (((i.output * i.divider) / i.reference) - i.n);
     if f >= 1.0 {
         if f <= 8191.0 {
-            return Fracn::Value(cut_down(f) as u16);
+            return Some(cut_down(f) as u16);
         }
-        return Fracn::OutOfRange;
+        return None;
     }
     if f >= 0.0 {
-        return Fracn::Value(0);
+        return Some(0);
     }
-    Fracn::OutOfRange
+    None
 }
 
 // FRACN from whole numbers, each of them an f32 first.
-pub fn fracn_for(reference: u32, n: u32, divider: u32, output: u32) -> Fracn
+pub fn fracn_for(reference: u32, n: u32, divider: u32, output: u32) -> Option<u16>
     ensures steps { result ≡ fracn_of (float reference) (float n) (float divider) (float output) }
     ensures whole { result ≡ fracn_for reference n divider output }
 {

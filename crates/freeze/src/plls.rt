@@ -1,20 +1,24 @@
 // One function plans PLL k, by its number. rcc.rs (the pll_setup! calls).
-ghost use Rattle.std.specs.Prelude.{◌≡◌, ◌<◌};
-ghost use Rattle.rules.specs.Answers.{pll_result};
-ghost use Rattle.freeze.specs.Plls.{planned_one};
+ghost use Rattle.std.specs.Prelude.{◌≡◌, ◌≤◌, ◌<◌, cond, None, Ok};
+ghost use Rattle.rules.specs.Document01.Chip.{odd_at, has_pll};
+ghost use Rattle.rules.specs.Document01.OnePll.{pll_of};
 
-use types::{ChipState, Pll, PllAnswer, PllRequest};
+use types::{ChipState, PllRequest, PllSettings, Refusal};
 
 // PLL k, from 0, where the chip has it.
-pub fn plan_at(c: ChipState, source: u32, request: PllRequest, k: usize) -> PllAnswer
-    requires { k < 3 }
-    ensures { pll_result result ≡ planned_one c source request k }
+#[tactic(auto, unfolding(pll::specs::Answer::one_pll_of))]
+pub fn plan_at(
+    c: &ChipState,
+    source: u32,
+    request: PllRequest,
+    k: usize,
+) -> Result<Option<PllSettings>, Refusal>
+    requires { (1 ≤ source) × (k < 3) }
+    ensures { result ≡ cond (has_pll c.now k) (pll_of (odd_at c.now k) source request) (Ok None) }
 {
     let there = (k < 2) | c.three;
     if !there {
-        return PllAnswer::Planned(Pll::Idle);
+        return Ok(None);
     }
-    let odd = c.odd;
-    let allowed = odd[k];
-    pll::plan_pll(allowed, source, request)
+    pll::plan_pll(c.odd[k], source, request)
 }

@@ -1,7 +1,7 @@
 // What there is to say of a refusal, of a wrong word, and of no word at all.
 #![tactic(auto)]
 
-use ask::Taken;
+use ask::{Kind, Wrong, WrongWord};
 use print::say;
 
 mod pages;
@@ -47,38 +47,42 @@ bytes=HEX         a request as bytes
 }
 
 // What would be right.
-fn right(wrong: u32) {
+fn right(wrong: Wrong) {
     match wrong {
-        1 => say(b"hertz are wanted, below 4294967296:\n25000000, 25M, 12.288M or 32k\n"),
-        2 => say(b"it takes no value\n"),
-        3 => say(b"a source is wanted, with :HERTZ or without:\nhsi, lse, hse, pll1q or hsi48\n"),
-        4 => say(
-            b"a source is wanted, with :HERTZ or without:\nsysclk, pll2p, hse, pll1p, csi or lsi\n",
-        ),
-        5 => say(b"integer or fractional is wanted\n"),
-        6 => say(b"two or three is wanted\n"),
-        7 => say(b"a number from 0 to 255 is wanted\n"),
-        8 => say(b"plan, entries, bank or bytes is wanted\n"),
-        9 => say(b"two hexadecimal digits for each byte are wanted,\nfor 106 bytes at most\n"),
-        _ => say(b"there is no such word. The words are:\n\n"),
+        Wrong::Value(kind) => right_value(kind),
+        Wrong::NoSuchKey => {
+            say(b"there is no such word. The words are:\n\n");
+            keys();
+        }
     }
 }
 
-// A wrong word, and what would be right.
-pub fn wrong_word(words: &[u8], taken: Taken) {
-    let from = taken.from;
-    let to = taken.to;
+fn right_value(kind: Kind) {
+    say(match kind {
+        Kind::Hertz => b"hertz are wanted, below 4294967296:\n25000000, 25M, 12.288M or 32k\n",
+        Kind::Nothing => b"it takes no value\n",
+        Kind::Mco1 =>
+            b"a source is wanted, with :HERTZ or without:\nhsi, lse, hse, pll1q or hsi48\n",
+        Kind::Mco2 =>
+            b"a source is wanted, with :HERTZ or without:\nsysclk, pll2p, hse, pll1p, csi or lsi\n",
+        Kind::Strategy => b"integer or fractional is wanted\n",
+        Kind::Count => b"two or three is wanted\n",
+        Kind::Small => b"a number from 0 to 255 is wanted\n",
+        Kind::Shown => b"plan, entries, bank or bytes is wanted\n",
+        Kind::Digits =>
+            b"two hexadecimal digits for each byte are wanted,\nfor 106 bytes at most\n",
+    });
+}
+
+// A wrong word, and what would be right. One that begins with @ is a file that cannot be read.
+pub fn wrong_word(words: &[u8], at: WrongWord) {
+    let word = words.get(at.from..at.to).unwrap_or(b"");
     say(b"plan: ");
-    if from <= to && to <= words.len() {
-        say(&words[from..to]);
-    }
+    say(word);
     say(b": ");
-    if text::byte_at(words, from, 0) == b'@' {
+    if word.starts_with(b"@") {
         say(b"this file cannot be read\n");
-        return;
-    }
-    right(taken.wrong);
-    if taken.wrong == 10 {
-        keys();
+    } else {
+        right(at.wrong);
     }
 }

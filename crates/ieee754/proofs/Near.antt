@@ -1,5 +1,6 @@
 -- How far above its fraction a rounded one is: by 1 part in 2 ^ 24 and a unit at most. And so the VCO that a FRACN stands for is at most 98 hertz above
 -- what it was to be: output × divider and the quotient are rounded up, while N less and × 8192 are exact.
+use Rattle.std.specs.Prelude.{Some}
 use mathlib.Core.Path.{◌≡◌, refl, sym, ap, ◌∙◌, subst}
 use mathlib.Core.Bool.{Bool, true, false, not, ◌&&◌}
 use Prim.Native.Nat.{ℕ, zero, suc, ◌+◌, ◌-◌, ◌*◌, ◌/◌, ◌%◌, ◌^◌, ◌≤◌, ◌<◌, compare, Ordering}
@@ -13,7 +14,6 @@ use lib.Ieee.{nearest}
 use lib.Ieee.Digits.{size_reaches}
 use lib.Ieee.Nearest.{closest}
 use lib.Ieee.Order.{drop, kept}
-use Rattle.types.specs.declared.Fracn.TheVariants.{Value}
 use Rattle.ieee754.specs.Steps.{accept}
 use Rattle.ieee754.specs.Whole.{unit, rounded, whole, times, less, quotient_whole, fracn_whole}
 use Rattle.ieee754.proofs.Round.{kept_le, rounded_mono, rounded_exact, rounded_ge}
@@ -176,7 +176,7 @@ sums ref n f q t end u hr he hu hq ht hn hf =
     join ref x q t end u a b c = omega arith
 
 -- what an accepted FRACN says
-accepted : (b : Bool) (v f : ℕ) → accept b v ≡ Value f → (b ≡ true) × (v ≡ f)
+accepted : (b : Bool) (v f : ℕ) → accept b v ≡ Some f → (b ≡ true) × (v ≡ f)
 accepted true v f e = (refl, cc)
 accepted false v f e = absurd (let z : ◌≡◌ {A = ℕ} 0 1 = cc in omega arith)
 
@@ -237,7 +237,7 @@ module _ (ref n d o end c f : ℕ) (r1 : 1 ≤ ref) (r2 : ref ≤ 16_000_000) (n
           none r u a b c = omega arith
       go false e = leb-false unit p e
 
-  pub fracn_below : fracn_whole ref n d o ≡ Value f → ref * (8192 * n + f) ≤ 8192 * (end + 98)
+  pub fracn_below : fracn_whole ref n d o ≡ Some f → ref * (8192 * n + f) ≤ 8192 * (end + 98)
   unfolding fracn_whole
   fracn_below v =
       let x : ℕ = times (whole 8192) (less q (whole n)) in

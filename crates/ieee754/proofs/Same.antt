@@ -1,4 +1,5 @@
 -- At f32 values of whole numbers below 2 ^ 32, the f32 definitions are the definitions over whole numbers. Nothing overflows there: every value is below 2 ^ 97.
+use Rattle.std.specs.Prelude.{Option, Some, None}
 use mathlib.Core.Path.{◌≡◌, refl, sym, ap, ◌∙◌, subst}
 use Prim.Native.Nat.{ℕ, ◌+◌, ◌-◌, ◌*◌, ◌/◌, ◌^◌, ◌≤◌, ◌<◌, min}
 use native.Mathlib.Nat.{le_trans, le_of_eq, lt_of_le_of_lt, lt_of_lt_of_le, mul-one, mul_assoc, mul_right_comm, mul-pos, mul-le-mul, mul-le-mul_left, mul-le-mul_right, add-le-add, one-mul, le_of_suc-le-suc, div-lt_iff_lt-mul}
@@ -10,8 +11,6 @@ use lib.Ieee.{Float, binary32, round, of_int, add, sub, mul, div, le, to_unsigne
 use lib.Ieee.Exact.{HasValue}
 use lib.Ieee.Scale.{overflow, round_same}
 use borrow.Author.Tests.{leb-true, leb-false}
-use Rattle.types.specs.declared.Fracn.{Fracn}
-use Rattle.types.specs.declared.Fracn.TheVariants.{Value, OutOfRange}
 use Rattle.ieee754.specs.Steps.{float, accept, fracn_cut, fracn_of, vco_of}
 use Rattle.ieee754.specs.Whole.{unit, rounded, whole, times, over, plus, less, quotient_whole, fracn_whole, vco_whole}
 use Rattle.ieee754.proofs.Round.{rounded_grid, rounded_le, rounded_ge, rounded_pos, rounded_exact}
@@ -121,11 +120,11 @@ cut_same x f h =
     small q h = omega arith
 
     go : (t : Bool) → leb f (8191 * unit) ≡ t → accept t (min (f / unit) (2 ^ 16 - 1)) ≡ accept t (f / unit)
-    go true e = ap Value (small (f / unit) (at_most f unit unit_pos (leb-true f (8191 * unit) e)))
+    go true e = ap Some (small (f / unit) (at_most f unit unit_pos (leb-true f (8191 * unit) e)))
     go false e = refl
 
 -- a negative value is refused
-cut_neg : (x : Float) (f v : ℕ) → 0 < f → IsNeg x f → fracn_cut x ≡ OutOfRange
+cut_neg : (x : Float) (f v : ℕ) → 0 < f → IsNeg x f → fracn_cut x ≡ None
 unfolding of_int
 cut_neg x f v F h = ap (λ (b : Bool). accept (b && le x (float 8191)) (to_unsigned 16 x)) (neg_val x f unit F h)
 
@@ -155,7 +154,7 @@ module _ (ref d o : ℕ) (P : 0 < ref) (hr : ref < 2 ^ 32) (hd : d < 2 ^ 32) (ho
 abbrev rest : Float → ℕ → Float
 rest x n = mul binary32 (float 8192) (sub binary32 x (float n))
 
-abbrev rest_whole : ℕ → ℕ → Fracn
+abbrev rest_whole : ℕ → ℕ → Option ℕ
 rest_whole q n = accept (leb (whole n) q && leb (times (whole 8192) (less q (whole n))) (8191 * unit)) (times (whole 8192) (less q (whole n)) / unit)
 
 nonzero : (a b : ℕ) → a < b → unit ≤ (b - a) * unit

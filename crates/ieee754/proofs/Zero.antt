@@ -1,4 +1,5 @@
 -- A reference of 0 is refused by the f32 steps: the quotient is infinite or no number, whatever the other three are.
+use Rattle.std.specs.Prelude.{None}
 use mathlib.Core.Path.{◌≡◌, refl}
 use mathlib.Core.Bool.{Bool, true, false, cond, beq}
 use Prim.Native.Nat.{ℕ, zero, suc, ◌^◌, ◌<◌}
@@ -7,7 +8,6 @@ use borrow.Author.Tests.{ne_eqb}
 use lib.Dec.{eqb}
 use lib.IntN.{ℤ, pos}
 use lib.Ieee.{Float, nan, inf, fin, binary32, neg, add, sub, mul, div, lt, eq, le, of_int, unlike}
-use Rattle.types.specs.declared.Fracn.TheVariants.{OutOfRange}
 use Rattle.ieee754.specs.Steps.{float, fracn_cut, fracn_of}
 use Rattle.ieee754.specs.Whole.{fracn_for}
 use Rattle.ieee754.proofs.Same.{fracn_same}
@@ -47,7 +47,7 @@ unfolding mul of_int
 times_8192 no_number = no_number
 times_8192 (infinite s) = infinite (unlike false s)
 
-refused : {f : Float} → Endless f → fracn_cut f ≡ OutOfRange
+refused : {f : Float} → Endless f → fracn_cut f ≡ None
 unfolding le lt eq of_int
 refused no_number = refl
 refused (infinite false) = refl
@@ -58,7 +58,7 @@ zero_is : float 0 ≡ fin false 0 (pos 0)
 unfolding of_int
 zero_is = refl
 
-pub zero_refused : (n d o : Float) → fracn_of (float 0) n d o ≡ OutOfRange
+pub zero_refused : (n d o : Float) → fracn_of (float 0) n d o ≡ None
 unfolding fracn_of
 zero_refused n d o = refused (times_8192 (less_any (rw zero_is (over_zero (mul binary32 o d) (pos 0))) n))
 

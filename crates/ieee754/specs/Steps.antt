@@ -1,10 +1,8 @@
 -- What `calc_fracn` and `calc_vco_ck` work out, as f32 operations in the Rust's order, each rounded once (`lib.Ieee`).
 
-use Rattle.std.specs.Prelude.{ℕ, Bool, true, false, ◌&&◌, pos, Float}
+use Rattle.std.specs.Prelude.{ℕ, Bool, true, false, ◌&&◌, pos, Float, Option, Some, None}
 use Rattle.std.specs.Float.{binary32}
 use Rattle.std.specs.Float.Ieee.{add, sub, mul, div, le, of_int, to_unsigned}
-use Rattle.types.specs.declared.Fracn.{Fracn}
-use Rattle.types.specs.declared.Fracn.TheVariants.{Value, OutOfRange}
 
 -- the whole number n as an f32, rounded
 abbrev pub float : ℕ → Float
@@ -15,16 +13,16 @@ abbrev pub fracn_float : Float → Float → Float → Float → Float
 fracn_float ref n divider output = mul binary32 (float 8192) (sub binary32 (div binary32 (mul binary32 output divider) ref) n)
 
 -- a value that is in range, or refused
-abbrev pub accept : Bool → ℕ → Fracn
-accept true v = Value v
-accept false v = OutOfRange
+abbrev pub accept : Bool → ℕ → Option ℕ
+accept true v = Some v
+accept false v = None
 
 -- refused outside 0..8191, then cut down
-abbrev pub fracn_cut : Float → Fracn
+abbrev pub fracn_cut : Float → Option ℕ
 fracn_cut f = accept (le (float 0) f && le f (float 8191)) (to_unsigned 16 f)
 
 -- document 01, One PLL, FRACN: calc_fracn of pll.rs
-unfoldable pub fracn_of : Float → Float → Float → Float → Fracn
+unfoldable pub fracn_of : Float → Float → Float → Float → Option ℕ
 fracn_of ref n divider output = fracn_cut (fracn_float ref n divider output)
 
 -- ref × (N + FRACN / 8192), cut down

@@ -1,11 +1,9 @@
 -- The same two results over whole numbers alone. A number is a count of `unit`s: 2 ^ -149, the smallest f32 above 0. An f32 keeps 24 binary digits.
 -- `size n` is how many binary digits n has, and `closest a b` is a / b to the nearest whole number, a tie to the even one (`lib.Ieee`, `lib.Ieee.Nearest`).
 
-use Rattle.std.specs.Prelude.{ℕ, ◌+◌, ◌-◌, ◌*◌, ◌/◌, ◌^◌, min, cond, ◌&&◌, leb, eqb}
+use Rattle.std.specs.Prelude.{ℕ, ◌+◌, ◌-◌, ◌*◌, ◌/◌, ◌^◌, min, cond, ◌&&◌, leb, eqb, Option, None}
 use lib.Ieee.{size}
 use Rattle.std.specs.Float.Ieee.Nearest.{closest}
-use Rattle.types.specs.declared.Fracn.{Fracn}
-use Rattle.types.specs.declared.Fracn.TheVariants.{OutOfRange}
 use Rattle.ieee754.specs.Steps.{accept}
 
 -- how many units are 1
@@ -44,15 +42,15 @@ unfoldable pub quotient_whole : ℕ → ℕ → ℕ → ℕ
 quotient_whole ref divider output = over (times (whole output) (whole divider)) (whole ref)
 
 -- 8192 × ((output × divider) / ref − N): refused below 0 or above 8191, then cut down
-unfoldable pub fracn_whole : ℕ → ℕ → ℕ → ℕ → Fracn
+unfoldable pub fracn_whole : ℕ → ℕ → ℕ → ℕ → Option ℕ
 fracn_whole ref n divider output =
     let q = quotient_whole ref divider output in
     let f = times (whole 8192) (less q (whole n)) in
     accept (leb (whole n) q && leb f (8191 * unit)) (f / unit)
 
 -- the same for every reference: 0 is refused, since there is no quotient
-unfoldable pub fracn_for : ℕ → ℕ → ℕ → ℕ → Fracn
-fracn_for ref n divider output = cond (eqb ref 0) OutOfRange (fracn_whole ref n divider output)
+unfoldable pub fracn_for : ℕ → ℕ → ℕ → ℕ → Option ℕ
+fracn_for ref n divider output = cond (eqb ref 0) None (fracn_whole ref n divider output)
 
 -- ref × (N + FRACN / 8192), cut down, and at most 2 ^ 32 - 1
 unfoldable pub vco_whole : ℕ → ℕ → ℕ → ℕ

@@ -13,40 +13,22 @@ fn wide(s: &[u32], k: usize) -> u64
     fields::word(s, k) as u64
 }
 
-// 1 where two numbers are equal, else 0.
-fn same(x: usize, y: usize) -> u64
-    ensures { result ≡ bit (eqb x y) }
-{
-    if x == y {
-        return 1;
-    }
-    0
-}
-
 // The clock that feeds a PLL.
 fn feed(src: u32) -> u64
     ensures { result ≡ cond (eqb src 3) 12 8 }
 {
-    if src == 3 {
-        return 12;
-    }
-    8
+    if src == 3 { 12 } else { 8 }
 }
 
 // 1 where byte i of n ends a row of thirty or is the last, else 0.
 fn ends(i: usize, n: usize) -> u64
     ensures { result ≡ bit (eqb (i % 30) 29 || eqb (i + 1) n) }
 {
-    if i % 30 == 29 {
-        return 1;
-    }
-    if n == 0 {
-        return 0;
-    }
-    same(i, n - 1)
+    (i % 30 == 29 || n > 0 && i == n - 1) as u64
 }
 
 // PLL n by its PLLSRC and its words.
+#[tactic(auto, unfolding(crate::specs::Lines::pll_line))]
 pub fn pll_line(n: u32, src: u32, words: &[u32]) -> [u64; 9]
     ensures { result ≡ pll_line n src words.now }
 {
@@ -64,6 +46,7 @@ pub fn pll_line(n: u32, src: u32, words: &[u32]) -> [u64; 9]
 }
 
 // Entry i by its words.
+#[tactic(auto, unfolding(crate::specs::Lines::entry_line))]
 pub fn entry_line(i: u32, words: &[u32]) -> [u64; 10]
     ensures { result ≡ entry_line i words.now }
 {
@@ -82,22 +65,25 @@ pub fn entry_line(i: u32, words: &[u32]) -> [u64; 10]
 }
 
 // Word f of a bank.
+#[tactic(auto, unfolding(crate::specs::Lines::word_line))]
 pub fn word_line(bank: &[u32], f: u32) -> [u64; 4]
     ensures { result ≡ word_line bank.now f }
 {
     let k = f as usize;
-    [f as u64, f as u64 + 1, wide(bank, k), same(k % 3, 2)]
+    [f as u64, f as u64 + 1, wide(bank, k), (k % 3 == 2) as u64]
 }
 
 // Byte i of a request.
+#[tactic(auto, unfolding(crate::specs::Lines::byte_line))]
 pub fn byte_line(request: &[u8], i: usize) -> [u64; 4]
     ensures { result ≡ byte_line request.now i }
 {
     let b = text::byte_at(request, i, 0) as u64;
-    [same(i % 30, 0), b / 16, b % 16, ends(i, request.len())]
+    [(i % 30 == 0) as u64, b / 16, b % 16, ends(i, request.len())]
 }
 
 // The digits of a register.
+#[tactic(auto, unfolding(crate::specs::Lines::hex_line))]
 pub fn hex_line(word: u32) -> [u64; 8]
     ensures { result ≡ hex_line word }
 {

@@ -1,4 +1,4 @@
 pub mod Showing
-pub mod Segments
+pub mod Told
 pub mod Listed
 pub mod Walked

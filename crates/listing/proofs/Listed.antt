@@ -1,18 +1,15 @@
 -- With no values read a list is stored: each entry once, behind the word that counts them.
-use mathlib.Core.Path.{◌≡◌, refl, ◌∙◌, sym, ap}
+use mathlib.Core.Path.{◌≡◌, refl, ◌∙◌, ap}
 use mathlib.Core.Bool.{Bool, true, false}
 use mathlib.Core.List.{List, [], ◌∷◌, ◌++◌, append-nil}
-use Prim.Native.Nat.{ℕ, suc, ◌+◌, ◌*◌, ◌-◌, ◌/◌}
+use Prim.Native.Nat.{ℕ, suc, ◌+◌, ◌*◌, ◌-◌}
 use native.Mathlib.Omega.{arith}
-use borrow.Author.Tests.{le-leb, lt-leb, ltb-true, ltb-false, leb-true, leb-false}
-use lib.Dec.{ltb, leb}
+use borrow.Author.Tests.{le-leb, lt-leb, leb-true, leb-false}
+use lib.Dec.{leb}
 use lib.ListN.{length, set, take, drop}
 use Rattle.types.specs.declared.Entry.{Entry}
 use Rattle.rules.specs.Words.{entry_words, stored_at, listed_from, listed}
-use Rattle.rules.specs.Document01.Entries.{most}
-use Rattle.rules.proofs.Document01.Run.{stored_length}
-use Rattle.listing.specs.Showing.{showing, stored_in, show_one, show_all, Ends}
-use Rattle.listing.specs.declared.Place.{Place}
+use Rattle.listing.specs.Showing.{showing, show_one, show_all}
 use Rattle.listing.proofs.Showing.{all_read, passed}
 
 -- behind the first word
@@ -35,28 +32,18 @@ module _ (c : ℕ) (b : List ℕ) (i : ℕ) (w : List ℕ) where
   behind : c ∷ stored_at b i w ≡ stored_at (c ∷ b) (i + 1) w
   behind = let l : i + 1 ≡ suc i = omega arith in rw l (behind_by (leb (i + 9) (length b)) refl)
 
--- the n things that have room are those that fit
-in_room : (n i : ℕ) (w b : List ℕ) → n ≡ length b / 9 → stored_in n i w b ≡ stored_at b (9 * i) w
-unfolding stored_in stored_at
-in_room n i w b e = go (ltb i n) refl
-  where
-    go : (t : Bool) → ltb i n ≡ t → stored_in n i w b ≡ stored_at b (9 * i) w
-    go true h = let l = ltb-true i n h in rw (h, le-leb (9 * i + 9) (length b) (omega arith))
-    go false h = let l = ltb-false i n h in rw (h, lt-leb (9 * i + 9) (length b) (omega arith))
-
 -- so a list that is shown is stored
-shown_listed : (es : List Entry) (n i c : ℕ) (b : List ℕ) → n ≡ length b / 9
-    → (c ∷ (show_all [] n es (showing i b)).room ≡ listed_from (c ∷ b) (9 * i + 1) es) × ((show_all [] n es (showing i b)).at ≡ i + length es)
-shown_listed [] n i c b e = (refl, omega arith)
-shown_listed (x ∷ es) n i c b e =
+shown_listed : (es : List Entry) (i c : ℕ) (b : List ℕ) → (c ∷ (show_all [] es (showing i b)).room ≡ listed_from (c ∷ b) (9 * i + 1) es) × ((show_all [] es (showing i b)).at ≡ i + length es)
+shown_listed [] i c b = (refl, omega arith)
+shown_listed (x ∷ es) i c b =
     let w = entry_words x in
     let b₂ = stored_at b (9 * i) w in
-    let s : show_one [] n x (showing i b) ≡ showing (i + 1) b₂ = passed [] n x i b (all_read [] i x (omega arith)) ∙ ap (λ z. showing (i + 1) z) (in_room n i w b e) in
-    let r = shown_listed es n (i + 1) c b₂ (e ∙ ap (λ z. z / 9) (sym (stored_length b (9 * i) w))) in
+    let s : show_one [] x (showing i b) ≡ showing (i + 1) b₂ = passed [] x i b (all_read [] i x (omega arith)) in
+    let r = shown_listed es (i + 1) c b₂ in
     let m : 9 * (i + 1) + 1 ≡ 9 * i + 1 + 9 = omega arith in
     let q = r.1 in
-    let l = ap (λ z. (show_all [] n es z).at) s in (
-      ap (λ z. c ∷ (show_all [] n es z).room) s ∙ r.0 ∙ ap (λ z. listed_from z (9 * (i + 1) + 1) es) (behind c b (9 * i) w) ∙ ap (λ z. listed_from (stored_at (c ∷ b) (9 * i + 1) w) z es) m,
+    let l = ap (λ z. (show_all [] es z).at) s in (
+      ap (λ z. c ∷ (show_all [] es z).room) s ∙ r.0 ∙ ap (λ z. listed_from z (9 * (i + 1) + 1) es) (behind c b (9 * i) w) ∙ ap (λ z. listed_from (stored_at (c ∷ b) (9 * i + 1) w) z es) m,
       l ∙ q ∙ omega arith,
     )
 
@@ -81,26 +68,19 @@ drop_all : (b : List ℕ) → drop (length b) b ≡ []
 drop_all [] = refl
 drop_all (x ∷ b) = drop_all b
 
-module _ (es : List Entry) (n : ℕ) {p : Place} {c : List ℕ} where
-  pub counted : (b : List ℕ) → n ≡ length b / 9 → Ends [] n most es 0 b p c → p.at ≡ length es
-  counted b e s = ap (λ z. z.at) s.shown ∙ (shown_listed es n 0 0 b e).1 ∙ omega arith
-
-  by_list : (b : List ℕ) → n ≡ length b / 9 → Ends [] n most es 0 b p c → p.at ∷ c ≡ listed_from (length es ∷ b) 1 es
-  by_list b e s = rw (counted b e s) (ap (λ z. length es ∷ z.room) s.shown ∙ (shown_listed es n 0 (length es) b e).0)
+module _ (es : List Entry) {at : ℕ} {down : Bool} {c : List ℕ} where
+  by_list : (b : List ℕ) → record { at = at; down = down; room = c } ≡ show_all [] es (showing 0 b) → (at ∷ c ≡ listed_from (length es ∷ b) 1 es) × (at ≡ length es)
+  by_list b s =
+      let n : at ≡ length es = ap (λ z. z.at) s ∙ (shown_listed es 0 0 b).1 ∙ omega arith in
+      (rw n (ap (λ z. length es ∷ z.room) s ∙ (shown_listed es 0 (length es) b).0), n)
 
   -- the part behind the first word, and then the count
-  pub whole : (list : List ℕ) → (length list ≡ 0 → ⊥) → n ≡ (length list - 1) / 9 → Ends [] n most es 0 (take (length list - 1) (drop 1 list)) p c
-      → set (take 1 list ++ (c ++ drop (length list - 1) (drop 1 list))) 0 p.at ≡ listed es list
-  whole [] h e s = absurd (h refl)
-  whole (x ∷ b) h e s =
+  pub whole : (list : List ℕ) → (length list ≡ 0 → ⊥) → record { at = at; down = down; room = c } ≡ show_all [] es (showing 0 (take (length list - 1) (drop 1 list)))
+      → (set (take 1 list ++ (c ++ drop (length list - 1) (drop 1 list))) 0 at ≡ listed es list) × (at ≡ length es)
+  whole [] h s = absurd (h refl)
+  whole (x ∷ b) h s =
       let l : length (x ∷ b) - 1 ≡ length b = omega arith in
       let a : take (length (x ∷ b) - 1) b ≡ b = ap (λ z. take z b) l ∙ take_all b in
       let d : drop (length (x ∷ b) - 1) b ≡ [] = ap (λ z. drop z b) l ∙ drop_all b in
-      ap (λ z. p.at ∷ (c ++ z)) d ∙ ap (p.at ∷◌) (append-nil c) ∙ by_list b (e ∙ ap (λ z. z / 9) l) (rw a at s)
-
-  pub counted_behind : (list : List ℕ) → (length list ≡ 0 → ⊥) → n ≡ (length list - 1) / 9 → Ends [] n most es 0 (take (length list - 1) (drop 1 list)) p c → p.at ≡ length es
-  counted_behind [] h e s = absurd (h refl)
-  counted_behind (x ∷ b) h e s =
-      let l : length (x ∷ b) - 1 ≡ length b = omega arith in
-      let a : take (length (x ∷ b) - 1) b ≡ b = ap (λ z. take z b) l ∙ take_all b in
-      counted b (e ∙ ap (λ z. z / 9) l) (rw a at s)
+      let r = by_list b (rw a at s) in
+      (ap (λ z. at ∷ (c ++ z)) d ∙ ap (at ∷◌) (append-nil c) ∙ r.0, r.1)

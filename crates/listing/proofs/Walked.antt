@@ -1,30 +1,29 @@
 -- A list shown in order is document 01's walk over it: what is stored after each thing shown is what the walk has shown.
+use Rattle.std.specs.Prelude.{Result, Ok, Err}
 use mathlib.Core.Path.{◌≡◌, refl, ◌∙◌, sym, ap}
 use mathlib.Core.Bool.{Bool, true, false, cond}
-use mathlib.Core.List.{List, [], ◌∷◌}
+use mathlib.Core.List.{List, [], ◌∷◌, ◌++◌}
 use Prim.Native.Nat.{ℕ, zero, suc, ◌+◌, ◌*◌, ◌-◌, ◌/◌, ◌≤◌, ◌<◌}
 use native.Mathlib.Omega.{arith}
-use borrow.Author.Tests.{lt-ltb, ltb-true, ltb-false}
+use borrow.Author.Tests.{lt-ltb, le-leb, ltb-true, ltb-false}
 use lib.Dec.{eqb, ltb}
-use lib.ListN.{length, get_or, take, length-take}
+use lib.ListN.{length, get_or, set, take, drop, length-take, length-append, length-set}
 use lib.Seq.{get_or-take}
+use Rattle.std.proofs.lemmas.List.{set-append_left, take-append-drop}
+use Rattle.types.specs.declared.Refusal.{Refusal}
 use Rattle.types.specs.declared.Entry.{Entry}
 use Rattle.types.specs.declared.Entry.TheVariants.{Set, Set2, Set3, Set4, Wait, Wait2, Check, Read}
 use Rattle.types.specs.declared.Refusal.TheVariants.{CsiDown}
-use Rattle.types.specs.declared.Answer.{Answer}
-use Rattle.types.specs.declared.Answer.TheVariants.{Accepted, Refused}
 use Rattle.types.specs.declared.Plan.{Plan}
-use Rattle.types.specs.declared.Planned.{Planned}
-use Rattle.rules.specs.Document01.Entries.{most, plan_entries, answer_entries, entries_of}
-use Rattle.rules.specs.Document01.Walk.{Stand, before, ended, shown_of, passes, is_check, stepped_of, fresh_by, fresh_of}
-use Rattle.rules.specs.Words.{entry_words, shown_words, stored_at, stand_after, ran, shown_count}
+use Rattle.rules.specs.Document01.Entries.{plan_entries, entries_of}
+use Rattle.rules.specs.Document01.Walk.{Stand, before, ended, shown_of, passes, is_check, stepped_of, fresh_of}
+use Rattle.rules.specs.Words.{entry_words, shown_words, three_at, stored_at, stand_after, ran, shown_count}
 use Rattle.rules.proofs.Document01.Run.{stored_length}
-use Rattle.listing.specs.Showing.{Showing, showing, stored_in, seen, passed_at, once, show_one, show_all, Ends}
+use Rattle.listing.specs.Showing.{Showing, showing, seen, passed_at, once, show_one, show_all}
 use Rattle.listing.specs.Walked.{filled, last_read, end_of}
-use Rattle.listing.specs.declared.Place.{Place}
-use Rattle.listing.proofs.Showing.{not_passed, one_step, ended_stays}
+use Rattle.listing.proofs.Showing.{no_room, not_passed, one_step, ended_stays}
 
-module _ (s₀ : Stand) (reads room₀ : List ℕ) (n : ℕ) (enough : last_read n ≤ length reads) where
+module _ (s₀ : Stand) (reads room₀ : List ℕ) (n : ℕ) (enough : last_read n ≤ length reads) (all : length room₀ ≡ 9 * n) where
   abbrev those : List ℕ
   those = take (last_read n) reads
 
@@ -42,9 +41,10 @@ module _ (s₀ : Stand) (reads room₀ : List ℕ) (n : ℕ) (enough : last_read
   pub record Stands (s : Showing) (t : Stand) : Type 0 where
     pub going : s.at < n → (s.room ≡ stored s.at) × (after s.at ≡ t)
     pub full : n ≤ s.at → s.room ≡ stored n
+    pub same : length s.room ≡ length room₀
 
   pub fresh : Stands (showing 0 room₀) s₀
-  fresh = record { going = λ h. (refl, refl); full = λ h. let l : n ≡ 0 = omega arith in rw l }
+  fresh = record { going = λ h. (refl, refl); full = λ h. let l : n ≡ 0 = omega arith in rw l; same = refl }
 
   read_as : (k v : ℕ) → k < last_read n → seen those k v ≡ eqb (get_or reads k 0) v
   unfolding seen
@@ -66,19 +66,19 @@ module _ (s₀ : Stand) (reads room₀ : List ℕ) (n : ℕ) (enough : last_read
   stored_next w g e h = rw (e, (g.going h).0, (g.going h).1)
 
   next : {i : ℕ} {room : List ℕ} {t : Stand} (w : List ℕ) → Stands (showing i room) t → w ≡ shown_words (shown_of t) → (down : Bool) (u : Stand)
-      → (i + 1 < n → stepped_of t (get_or reads (2 * i) 0) (get_or reads (2 * i + 1) 0) ≡ u) → Stands (record { at = i + 1; down = down; room = stored_in n i w room }) u
-  unfolding stored_in
+      → (i + 1 < n → stepped_of t (get_or reads (2 * i) 0) (get_or reads (2 * i + 1) 0) ≡ u) → Stands (record { at = i + 1; down = down; room = stored_at room (9 * i) w }) u
   next {i} {room} {t} w g e down u f = record {
     going = λ h.
         let l : i + 1 ≡ suc i = omega arith in
         let b : i < n = omega arith in
-        (rw (lt-ltb i n b, l) (stored_next w g e b), rw l (rw (g.going b).1 (f h)));
+        (rw l (stored_next w g e b), rw l (rw (g.going b).1 (f h)));
     full = λ h. go (ltb i n) refl h;
+    same = stored_length room (9 * i) w ∙ g.same;
   }
     where
-      go : (d : Bool) → ltb i n ≡ d → n ≤ i + 1 → cond (ltb i n) (stored_at room (9 * i) w) room ≡ stored n
-      go true p h = let b = ltb-true i n p in let l : suc i ≡ n = omega arith in rw p (stored_next w g e b ∙ ap stored l)
-      go false p h = rw p (g.full (ltb-false i n p))
+      go : (d : Bool) → ltb i n ≡ d → n ≤ i + 1 → stored_at room (9 * i) w ≡ stored n
+      go true p h = let b = ltb-true i n p in let l : suc i ≡ n = omega arith in stored_next w g e b ∙ ap stored l
+      go false p h = let b = ltb-false i n p in let k = g.same in sym (no_room i w room (omega arith)) ∙ g.full b
 
   -- one entry
   module _ (e : Entry) (rest : List Entry) where
@@ -89,81 +89,115 @@ module _ (s₀ : Stand) (reads room₀ : List ℕ) (n : ℕ) (enough : last_read
       as_passed : (d : Bool) → passed_at those i e ≡ d → i + 1 < n → passes e (get_or reads (2 * i) 0) (get_or reads (2 * i + 1) 0) ≡ d
       as_passed d p h = sym (passed_as i e h) ∙ p
 
-      led_by : (passed_at those i e ≡ false → Stands (once n e false (showing i room)) (before (e ∷ rest)) → Stands (show_one those n e (once n e false (showing i room))) (led (show_one those n e (once n e false (showing i room)))))
+      led_by : (passed_at those i e ≡ false → Stands (once e false (showing i room)) (before (e ∷ rest)) → Stands (show_one those e (once e false (showing i room))) (led (show_one those e (once e false (showing i room)))))
           → (p k : Bool) → passed_at those i e ≡ p → is_check e ≡ k
-          → Stands (cond p (once n e false (showing i room)) (cond k (once n e true (showing i room)) (show_one those n e (once n e false (showing i room)))))
-          (led (cond p (once n e false (showing i room)) (cond k (once n e true (showing i room)) (show_one those n e (once n e false (showing i room))))))
+          → Stands (cond p (once e false (showing i room)) (cond k (once e true (showing i room)) (show_one those e (once e false (showing i room)))))
+          (led (cond p (once e false (showing i room)) (cond k (once e true (showing i room)) (show_one those e (once e false (showing i room))))))
       led_by again true k p q = next (entry_words e) g refl false (before rest) (λ h. rw (as_passed true p h))
       led_by again false true p q = next (entry_words e) g refl true (ended CsiDown) (λ h. rw (as_passed false p h, q))
       led_by again false false p q = again p (next (entry_words e) g refl false (before (e ∷ rest)) (λ h. rw (as_passed false p h, q)))
 
-    entry_led : (m i : ℕ) (room : List ℕ) → length those - i ≡ m → Stands (showing i room) (before (e ∷ rest)) → Stands (show_one those n e (showing i room)) (led (show_one those n e (showing i room)))
-    entry_led zero i room h g = rw (one_step those n e i room) (led_by i room g (λ p s. absurd (let l = not_passed those i e p in omega arith)) (passed_at those i e) (is_check e) refl refl)
-    entry_led (suc m) i room h g = rw (one_step those n e i room) (led_by i room g (λ p s. entry_led m (i + 1) (stored_in n i (entry_words e) room) (omega arith) s) (passed_at those i e) (is_check e) refl refl)
+    entry_led : (m i : ℕ) (room : List ℕ) → length those - i ≡ m → Stands (showing i room) (before (e ∷ rest)) → Stands (show_one those e (showing i room)) (led (show_one those e (showing i room)))
+    entry_led zero i room h g = rw (one_step those e i room) (led_by i room g (λ p s. absurd (let l = not_passed those i e p in omega arith)) (passed_at those i e) (is_check e) refl refl)
+    entry_led (suc m) i room h g = rw (one_step those e i room) (led_by i room g (λ p s. entry_led m (i + 1) (stored_at room (9 * i) (entry_words e)) (omega arith) s) (passed_at those i e) (is_check e) refl refl)
 
   -- a list
-  ends_led : (es : List Entry) → ((i : ℕ) (room : List ℕ) → Stands (showing i room) (before es) → Stands (show_all those n es (showing i room)) (cond (show_all those n es (showing i room)).down (ended CsiDown) (before [])))
+  ends_led : (es : List Entry) → ((i : ℕ) (room : List ℕ) → Stands (showing i room) (before es) → Stands (show_all those es (showing i room)) (cond (show_all those es (showing i room)).down (ended CsiDown) (before [])))
       → (i : ℕ) (down : Bool) (room : List ℕ) → Stands (record { at = i; down = down; room = room }) (cond down (ended CsiDown) (before es))
-      → Stands (show_all those n es (record { at = i; down = down; room = room })) (cond (show_all those n es (record { at = i; down = down; room = room })).down (ended CsiDown) (before []))
-  ends_led es f i true room g = rw (← ended_stays those n es i room) g
+      → Stands (show_all those es (record { at = i; down = down; room = room })) (cond (show_all those es (record { at = i; down = down; room = room })).down (ended CsiDown) (before []))
+  ends_led es f i true room g = rw (← ended_stays those es i room) g
   ends_led es f i false room g = f i room g
 
-  list_led : (es : List Entry) (i : ℕ) (room : List ℕ) → Stands (showing i room) (before es) → Stands (show_all those n es (showing i room)) (cond (show_all those n es (showing i room)).down (ended CsiDown) (before []))
+  list_led : (es : List Entry) (i : ℕ) (room : List ℕ) → Stands (showing i room) (before es) → Stands (show_all those es (showing i room)) (cond (show_all those es (showing i room)).down (ended CsiDown) (before []))
   list_led [] i room g = g
   list_led (e ∷ es) i room g =
-      let s = show_one those n e (showing i room) in
+      let s = show_one those e (showing i room) in
       ends_led es (λ j r. list_led es j r) s.at s.down s.room (entry_led e es (length those - i) i room refl g)
 
   -- the rest
   fill_led : (t : Stand) (w : List ℕ) → w ≡ shown_words (shown_of t) → ((a b : ℕ) → stepped_of t a b ≡ t) → (k i : ℕ) (room : List ℕ) → n - i ≡ k → Stands (showing i room) t → filled k i w room ≡ stored n
-  unfolding stored_in
   fill_led t w e f zero i room h g = g.full (omega arith)
   fill_led t w e f (suc k) i room h g =
       let b : i < n = omega arith in
-      fill_led t w e f k (i + 1) (stored_at room (9 * i) w) (omega arith) (rw (lt-ltb i n b) at (next w g e false t (λ l. f (get_or reads (2 * i) 0) (get_or reads (2 * i + 1) 0))))
+      fill_led t w e f k (i + 1) (stored_at room (9 * i) w) (omega arith) (next w g e false t (λ l. f (get_or reads (2 * i) 0) (get_or reads (2 * i + 1) 0)))
 
 -- ---- the same words from place i to the end: what holds at the test of the loop
 pub record Filling (n i : ℕ) (w room₀ room : List ℕ) (k : ℕ) : Type 0 where
   pub left : filled (n - k) k w room ≡ filled (n - i) i w room₀
-  pub same : length room ≡ length room₀
 
 module _ (n i : ℕ) (w room₀ : List ℕ) where
   pub fills : Filling n i w room₀ room₀ i
-  fills = record { left = refl; same = refl }
+  fills = record { left = refl }
 
-  module _ {room : List ℕ} {k : ℕ} (g : Filling n i w room₀ room k) where
-    pub fills_on : k < n → {next : List ℕ} → next ≡ stored_in n k w room → Filling n i w room₀ next (k + 1)
-    unfolding stored_in
-    fills_on h e =
-        let l : n - k ≡ suc (n - (k + 1)) = omega arith in
-        let p = rw (lt-ltb k n h) at e in
-        record { left = rw p (rw l at g.left); same = rw p (stored_length room (9 * k) w ∙ g.same) }
+  pub fills_on : {room : List ℕ} {k : ℕ} → Filling n i w room₀ room k → k < n → {next : List ℕ} → next ≡ stored_at room (9 * k) w → Filling n i w room₀ next (k + 1)
+  fills_on {room} {k} g h e = let l : n - k ≡ suc (n - (k + 1)) = omega arith in record { left = rw e (rw l at g.left) }
 
 -- ---- of an answer
-all_led : (a : Answer) (p : Plan) (reads room : List ℕ) (n : ℕ) (enough : last_read n ≤ length reads)
-    → Stands (fresh_by a p) reads room n enough (show_all (take (last_read n) reads) n (answer_entries a p) (showing 0 room)) (end_of a (show_all (take (last_read n) reads) n (answer_entries a p) (showing 0 room)).down)
-all_led Accepted p reads room n enough = list_led (before (plan_entries p)) reads room n enough (plan_entries p) 0 room (fresh (before (plan_entries p)) reads room n enough)
-all_led (Refused r) p reads room n enough = fresh (ended r) reads room n enough
-
-stays : (a : Answer) (down : Bool) (c d : ℕ) → stepped_of (end_of a down) c d ≡ end_of a down
-stays Accepted true c d = refl
-stays Accepted false c d = refl
-stays (Refused r) down c d = refl
-
-pub walked : (x : Planned) (reads room : List ℕ) (n : ℕ) → last_read n ≤ length reads → {p : Place} {after final : List ℕ} → Ends (take (last_read n) reads) n most (entries_of x) 0 room p after
-    → final ≡ filled (n - p.at) p.at (shown_words (shown_of (end_of x.answer p.down))) after → final ≡ ran stepped_of (fresh_of x) reads room n
+all_led : (x : Result Plan Refusal) (reads room : List ℕ) (n : ℕ) (enough : last_read n ≤ length reads) (all : length room ≡ 9 * n)
+    → Stands (fresh_of x) reads room n enough all (show_all (take (last_read n) reads) (entries_of x) (showing 0 room)) (end_of x (show_all (take (last_read n) reads) (entries_of x) (showing 0 room)).down)
 unfolding entries_of
-walked x reads room n enough l f =
-    let s = show_all (take (last_read n) reads) n (answer_entries x.answer x.plan) (showing 0 room) in
-    let g = all_led x.answer x.plan reads room n enough in
-    f ∙ ap (λ z. filled (n - z.at) z.at (shown_words (shown_of (end_of x.answer z.down))) z.room) l.shown
-    ∙ fill_led (fresh_of x) reads room n enough (end_of x.answer s.down) (shown_words (shown_of (end_of x.answer s.down))) refl (stays x.answer s.down) (n - s.at) s.at s.room refl (record { going = g.going; full = g.full })
+all_led (Ok p) reads room n enough all = list_led (before (plan_entries p)) reads room n enough all (plan_entries p) 0 room (fresh (before (plan_entries p)) reads room n enough all)
+all_led (Err r) reads room n enough all = fresh (ended r) reads room n enough all
+
+stays : (x : Result Plan Refusal) (down : Bool) (c d : ℕ) → stepped_of (end_of x down) c d ≡ end_of x down
+stays (Ok p) true c d = refl
+stays (Ok p) false c d = refl
+stays (Err r) down c d = refl
+
+-- ---- a room that is longer
+three_behind : (b c : List ℕ) (i x y z : ℕ) → i + 3 ≤ length b → three_at (b ++ c) i x y z ≡ three_at b i x y z ++ c
+three_behind b c i x y z h =
+    let l : length (set b i x) ≡ length b = simp length-set in
+    let m : length (set (set b i x) (i + 1) y) ≡ length b = simp length-set in
+    ap (λ r. set (set r (i + 1) y) (i + 2) z) (set-append_left b c i x (omega arith))
+    ∙ ap (λ r. set r (i + 2) z) (set-append_left (set b i x) c (i + 1) y (omega arith)) ∙ set-append_left (set (set b i x) (i + 1) y) c (i + 2) z (omega arith)
+
+three_length : (b : List ℕ) (i x y z : ℕ) → length (three_at b i x y z) ≡ length b
+three_length b i x y z = simp length-set
+
+behind : (b c : List ℕ) (i : ℕ) (w : List ℕ) → i + 9 ≤ length b → stored_at (b ++ c) i w ≡ stored_at b i w ++ c
+unfolding stored_at
+behind b c i w h =
+    let b₁ = three_at b i (get_or w 0 0) (get_or w 1 0) (get_or w 2 0) in
+    let b₂ = three_at b₁ (i + 3) (get_or w 3 0) (get_or w 4 0) (get_or w 5 0) in
+    let l = three_length b i (get_or w 0 0) (get_or w 1 0) (get_or w 2 0) in
+    let m = three_length b₁ (i + 3) (get_or w 3 0) (get_or w 4 0) (get_or w 5 0) in
+    let longer : i + 9 ≤ length (b ++ c) = simp length-append (omega arith) in
+    rw (le-leb (i + 9) (length (b ++ c)) longer, le-leb (i + 9) (length b) h)
+    (ap (λ r. three_at (three_at r (i + 3) (get_or w 3 0) (get_or w 4 0) (get_or w 5 0)) (i + 6) (get_or w 6 0) (get_or w 7 0) (get_or w 8 0)) (three_behind b c i (get_or w 0 0) (get_or w 1 0) (get_or w 2 0) (omega arith))
+    ∙ ap (λ r. three_at r (i + 6) (get_or w 6 0) (get_or w 7 0) (get_or w 8 0)) (three_behind b₁ c (i + 3) (get_or w 3 0) (get_or w 4 0) (get_or w 5 0) (omega arith))
+    ∙ three_behind b₂ c (i + 6) (get_or w 6 0) (get_or w 7 0) (get_or w 8 0) (omega arith))
+
+ran_length : (step : Stand → ℕ → ℕ → Stand) (s : Stand) (reads room : List ℕ) (i : ℕ) → length (ran step s reads room i) ≡ length room
+ran_length step s reads room zero = refl
+ran_length step s reads room (suc i) = stored_length (ran step s reads room i) (9 * i) (shown_words (shown_of (stand_after step s reads i))) ∙ ran_length step s reads room i
+
+ran_behind : (step : Stand → ℕ → ℕ → Stand) (s : Stand) (reads b c : List ℕ) (i : ℕ) → 9 * i ≤ length b → ran step s reads (b ++ c) i ≡ ran step s reads b i ++ c
+ran_behind step s reads b c zero h = refl
+ran_behind step s reads b c (suc i) h =
+    let w = shown_words (shown_of (stand_after step s reads i)) in
+    ap (λ z. stored_at z (9 * i) w) (ran_behind step s reads b c i (omega arith)) ∙ behind (ran step s reads b i) c (9 * i) w (rw (ran_length step s reads b i) (omega arith))
+
+pub walked : (x : Result Plan Refusal) (reads room : List ℕ) (n : ℕ) → last_read n ≤ length reads → length room ≡ 9 * n → {at : ℕ} {down : Bool} {after final : List ℕ}
+    → record { at = at; down = down; room = after } ≡ show_all (take (last_read n) reads) (entries_of x) (showing 0 room)
+    → final ≡ filled (n - at) at (shown_words (shown_of (end_of x down))) after → final ≡ ran stepped_of (fresh_of x) reads room n
+walked x reads room n enough all l f =
+    let s = show_all (take (last_read n) reads) (entries_of x) (showing 0 room) in
+    let g = all_led x reads room n enough all in
+    f ∙ ap (λ z. filled (n - z.at) z.at (shown_words (shown_of (end_of x z.down))) z.room) l
+    ∙ fill_led (fresh_of x) reads room n enough all (end_of x s.down) (shown_words (shown_of (end_of x s.down))) refl (stays x s.down) (n - s.at) s.at s.room refl (record { going = g.going; full = g.full; same = g.same })
+
+-- in a room that has more than that
+pub walked_in : (x : Result Plan Refusal) (reads room : List ℕ) (n : ℕ) → last_read n ≤ length reads → 9 * n ≤ length room → {at : ℕ} {down : Bool} {after final : List ℕ}
+    → record { at = at; down = down; room = after } ≡ show_all (take (last_read n) reads) (entries_of x) (showing 0 (take (9 * n) room))
+    → final ≡ filled (n - at) at (shown_words (shown_of (end_of x down))) after → final ++ drop (9 * n) room ≡ ran stepped_of (fresh_of x) reads room n
+walked_in x reads room n enough h l f =
+    let k : length (take (9 * n) room) ≡ 9 * n = simp length-take (omega arith) in
+    ap (λ z. z ++ drop (9 * n) room) (walked x reads (take (9 * n) room) n enough k l f)
+    ∙ sym (ran_behind stepped_of (fresh_of x) reads (take (9 * n) room) (drop (9 * n) room) n (omega arith))
+    ∙ ap (λ z. ran stepped_of (fresh_of x) reads z n) (take-append-drop (9 * n) room)
 
 -- ---- lengths
-pub filled_length : (k i : ℕ) (w room : List ℕ) → length (filled k i w room) ≡ length room
-filled_length zero i w room = refl
-filled_length (suc k) i w room = filled_length k (i + 1) w (stored_at room (9 * i) w) ∙ stored_length room (9 * i) w
-
 -- no more are shown than there is room for, nor than there are values for
 pub count_bounds : (reads room : ℕ) → (last_read (shown_count reads room) ≤ reads) × (9 * shown_count reads room ≤ room)
 count_bounds reads room = go (ltb (room / 9) (reads / 2 + 1)) refl
@@ -171,6 +205,3 @@ count_bounds reads room = go (ltb (room / 9) (reads / 2 + 1)) refl
     go : (t : Bool) → ltb (room / 9) (reads / 2 + 1) ≡ t → (last_read (cond t (room / 9) (reads / 2 + 1)) ≤ reads) × (9 * cond t (room / 9) (reads / 2 + 1) ≤ room)
     go true e = let l = ltb-true (room / 9) (reads / 2 + 1) e in (omega arith, omega arith)
     go false e = let l = ltb-false (room / 9) (reads / 2 + 1) e in (omega arith, omega arith)
-
-pub taken : (m : ℕ) (reads : List ℕ) → m ≤ length reads → m ≡ length (take m reads)
-taken m reads h = simp length-take (omega arith)

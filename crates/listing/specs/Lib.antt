@@ -1,3 +1,3 @@
 pub mod Showing
-pub mod Starts
+pub mod Show
 pub mod Walked

@@ -1,8 +1,8 @@
 -- A walk over a list shown in order: where it stands at its end, and what it shows from there on.
-use Rattle.std.specs.Prelude.{Bool, cond, List, [], ℕ, zero, suc, ◌+◌, ◌*◌, ◌-◌}
+use Rattle.std.specs.Prelude.{Bool, cond, List, [], ℕ, zero, suc, ◌+◌, ◌*◌, ◌-◌, Result, Ok, Err}
 use Rattle.types.specs.declared.Refusal.TheVariants.{CsiDown}
-use Rattle.types.specs.declared.Answer.{Answer}
-use Rattle.types.specs.declared.Answer.TheVariants.{Accepted, Refused}
+use Rattle.types.specs.declared.Refusal.{Refusal}
+use Rattle.types.specs.declared.Plan.{Plan}
 use Rattle.rules.specs.Document01.Walk.{Stand, before, ended}
 use Rattle.rules.specs.Words.{stored_at}
 
@@ -16,6 +16,6 @@ abbrev pub last_read : ℕ → ℕ
 last_read n = 2 * (n - 1)
 
 -- where a walk stands at its end
-abbrev pub end_of : Answer → (down : Bool) → Stand
-end_of Accepted down = cond down (ended CsiDown) (before [])
-end_of (Refused n) down = ended n
+abbrev pub end_of : Result Plan Refusal → (down : Bool) → Stand
+end_of (Ok p) down = cond down (ended CsiDown) (before [])
+end_of (Err n) down = ended n

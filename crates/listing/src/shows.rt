@@ -1,12 +1,29 @@
-// One thing shown: nine words at its place in the room, while fewer than n are stored. The answer is the next place. docs/CODES.md, Entries as words.
-ghost use Rattle.std.specs.Prelude.{◌≡◌, [], ◌∷◌, not, ◌+◌, ◌<◌, length};
-ghost use Rattle.types.specs.declared.Entry.TheVariants.{Set, Set2, Set3, Set4, Wait, Wait2};
-ghost use Rattle.rules.specs.Document01.Fields;
-ghost use Rattle.listing.specs.Showing.{stored_in, seen, Fits, Sets, Shows};
+// Entries shown: nine words for each, stored at its place in the room lent. docs/CODES.md, Entries as words.
+ghost use Rattle.std.specs.Prelude.{◌≡◌, [], ◌∷◌, not, ◌+◌, ◌*◌, ◌<◌, ◌%◌, ◌^◌};
+ghost use Rattle.types.specs.declared.Entry.TheVariants.{Wait, Wait2};
+ghost use Rattle.rules.specs.Words.{field_word, stored_at};
+ghost use Rattle.listing.specs.Showing.{seen, showing, show_one};
+ghost use Rattle.listing.specs.Show.{shown, shown_once, wrapped};
 
-use fields::*;
+use entries::sink::Sink;
+use types::Entry;
 
-// Nine words.
+// A sink: how many things are shown, over which values read, and whether the check of CSIRDY has ended the list.
+#[derive(Drop)]
+pub struct Show<'a> {
+    pub reads: &'a [u32],
+    pub at: usize,
+    pub down: bool,
+}
+
+// A field of the bank, from 1; 0 for none.
+fn field(f: usize) -> u32
+    ensures { result ≡ field_word f }
+{
+    if f < 82 { f as u32 + 1 } else { 0 }
+}
+
+// Nine words at place i, where they have room.
 pub fn nine(
     kind: u32,
     f: u32,
@@ -18,168 +35,173 @@ pub fn nine(
     k: u32,
     y: u32,
     i: usize,
-    n: usize,
-    out: &mut [u32],
-) -> usize
-    requires { Fits n i 1 (length out.old) }
-    ensures next { result ≡ i + 1 }
-    ensures stored { out.new ≡ stored_in n i (kind ∷ f ∷ v ∷ g ∷ w ∷ h ∷ x ∷ k ∷ y ∷ []) out.old }
+    room: &mut [u32],
+)
+    ensures { room.new ≡ stored_at room.old (9 * i) (kind ∷ f ∷ v ∷ g ∷ w ∷ h ∷ x ∷ k ∷ y ∷ []) }
 {
-    if n <= i {
-        return i + 1;
+    let n = room.len();
+    if n / 8 <= i {
+        return;
     }
     let at = 9 * i;
-    out[at] = kind;
-    out[at + 1] = f;
-    out[at + 2] = v;
-    out[at + 3] = g;
-    out[at + 4] = w;
-    out[at + 5] = h;
-    out[at + 6] = x;
-    out[at + 7] = k;
-    out[at + 8] = y;
-    i + 1
+    if n < at + 9 {
+        return;
+    }
+    room[at] = kind;
+    room[at + 1] = f;
+    room[at + 2] = v;
+    room[at + 3] = g;
+    room[at + 4] = w;
+    room[at + 5] = h;
+    room[at + 6] = x;
+    room[at + 7] = k;
+    room[at + 8] = y;
 }
 
-// A set of one field.
-pub fn set(f: usize, v: u32, i: usize, n: usize, out: &mut [u32]) -> usize
-    requires { (f < 82) × Fits n i 1 (length out.old) }
-    ensures { Sets n 1 (Set f v ∷ []) i out.old result out.new }
+// Whether value k of the two read after thing i is there and is not v.
+fn other(reads: &[u32], i: usize, k: usize, v: u32) -> bool
+    requires { k < 2 }
+    ensures { result ≡ not (seen reads.now (2 * i + k) v) }
 {
-    nine(1, f as u32 + 1, v, 0, 0, 0, 0, 0, 0, i, n, out)
-}
-
-// A set of two fields together.
-pub fn set2(f: usize, v: u32, g: usize, w: u32, i: usize, n: usize, out: &mut [u32]) -> usize
-    requires { ((f < 82) × (g < 82)) × Fits n i 1 (length out.old) }
-    ensures { Sets n 1 (Set2 f v g w ∷ []) i out.old result out.new }
-{
-    nine(1, f as u32 + 1, v, g as u32 + 1, w, 0, 0, 0, 0, i, n, out)
-}
-
-// Of three.
-pub fn set3(
-    f: usize,
-    v: u32,
-    g: usize,
-    w: u32,
-    h: usize,
-    x: u32,
-    i: usize,
-    n: usize,
-    out: &mut [u32],
-) -> usize
-    requires { (((f < 82) × (g < 82)) × (h < 82)) × Fits n i 1 (length out.old) }
-    ensures { Sets n 1 (Set3 f v g w h x ∷ []) i out.old result out.new }
-{
-    nine(
-        1,
-        f as u32 + 1,
-        v,
-        g as u32 + 1,
-        w,
-        h as u32 + 1,
-        x,
-        0,
-        0,
-        i,
-        n,
-        out,
-    )
-}
-
-// Of four.
-pub fn set4(
-    f: usize,
-    v: u32,
-    g: usize,
-    w: u32,
-    h: usize,
-    x: u32,
-    k: usize,
-    y: u32,
-    i: usize,
-    n: usize,
-    out: &mut [u32],
-) -> usize
-    requires { ((((f < 82) × (g < 82)) × (h < 82)) × (k < 82)) × Fits n i 1 (length out.old) }
-    ensures { Sets n 1 (Set4 f v g w h x k y ∷ []) i out.old result out.new }
-{
-    nine(
-        1,
-        f as u32 + 1,
-        v,
-        g as u32 + 1,
-        w,
-        h as u32 + 1,
-        x,
-        k as u32 + 1,
-        y,
-        i,
-        n,
-        out,
-    )
-}
-
-// Whether a value read is there and is not v.
-pub fn other(reads: &[u32], k: usize, v: u32) -> bool
-    ensures { result ≡ not (seen reads.now k v) }
-{
-    if k < reads.len() {
-        let a = reads[k];
-        return a != v;
+    let n = reads.len();
+    if i < n {
+        let at = 2 * i + k;
+        if at < n {
+            return reads[at] != v;
+        }
     }
     false
 }
 
-// A wait for one value.
-pub fn wait(f: usize, v: u32, i: usize, n: usize, reads: &[u32], out: &mut [u32]) -> usize
-    requires { (f < 82) × Fits n i 1 (length out.old) }
-    ensures { Shows reads.now n 1 (Wait f v ∷ []) i out.old result out.new }
+// A wait for one value, shown again until it shows. The answer is the next place.
+fn wait(f: usize, v: u32, i: usize, reads: &[u32], room: &mut [u32]) -> usize
+    ensures { showing result room.new ≡ wrapped (show_one reads.now (Wait f v) (showing i room.old)) }
 {
+    let word = field(f);
     let mut at = i;
     let mut again = true;
     while again {
-        let k = 2 * at;
-        at = nine(2, f as u32 + 1, v, 0, 0, 0, 0, 0, 0, at, n, out);
-        again = other(reads, k, v);
+        nine(2, word, v, 0, 0, 0, 0, 0, 0, at, room);
+        again = other(reads, at, 0, v);
+        at = at.wrapping_add(1);
     }
     at
 }
 
-// What is turned on, or over, and waited for: the field after it has the value.
-pub fn turn(f: usize, v: u32, i: usize, n: usize, reads: &[u32], out: &mut [u32]) -> usize
-    requires { (f < 81) × Fits n i 2 (length out.old) }
-    ensures { Shows reads.now n 2 (Set f v ∷ Wait (f + 1) v ∷ []) i out.old result out.new }
+// For two.
+fn wait2(f: usize, v: u32, g: usize, w: u32, i: usize, reads: &[u32], room: &mut [u32]) -> usize
+    ensures { showing result room.new ≡ wrapped (show_one reads.now (Wait2 f v g w) (showing i room.old)) }
 {
-    let a = set(f, v, i, n, out);
-    wait(f + 1, v, a, n, reads, out)
-}
-
-// The compensation cell's wait, for two values.
-pub fn cell(i: usize, n: usize, reads: &[u32], out: &mut [u32]) -> usize
-    requires { Fits n i 1 (length out.old) }
-    ensures { Shows reads.now n 1 (Wait2 Fields.RDY1 1 Fields.RDY2 1 ∷ []) i out.old result out.new }
-{
+    let one = field(f);
+    let two = field(g);
     let mut at = i;
     let mut again = true;
     while again {
-        let k = 2 * at;
-        at = nine(
-            2,
-            RDY1 as u32 + 1,
-            1,
-            RDY2 as u32 + 1,
-            1,
-            0,
-            0,
-            0,
-            0,
-            at,
-            n,
-            out,
-        );
-        again = other(reads, k, 1) | other(reads, k + 1, 1);
+        nine(2, one, v, two, w, 0, 0, 0, 0, at, room);
+        again = other(reads, at, 0, v) | other(reads, at, 1, w);
+        at = at.wrapping_add(1);
     }
     at
+}
+
+impl<'a> Show<'a> {
+    // An entry that is passed whatever is read.
+    #[tactic(auto, unfolding(crate::specs::Show::shown_once))]
+    fn once(
+        &mut self,
+        kind: u32,
+        f: u32,
+        v: u32,
+        g: u32,
+        w: u32,
+        h: u32,
+        x: u32,
+        k: u32,
+        y: u32,
+        room: &mut [u32],
+    )
+        ensures { (self.new, room.new) ≡ shown_once (kind ∷ f ∷ v ∷ g ∷ w ∷ h ∷ x ∷ k ∷ y ∷ []) (self.old, room.old) }
+    {
+        if self.down {
+            return;
+        }
+        nine(kind, f, v, g, w, h, x, k, y, self.at, room);
+        self.at = self.at.wrapping_add(1);
+    }
+}
+
+impl<'a> Sink for Show<'a> {
+    ghost after = { shown };
+
+    #[tactic(auto, using(crate::proofs::Told::read_is))]
+    fn take(&mut self, e: Entry, room: &mut [u32]) {
+        match e {
+            Entry::Set(f, v) => self.set(f, v, room),
+            Entry::Set2(f, v, g, w) => self.set2(f, v, g, w, room),
+            Entry::Set3(f, v, g, w, h, x) => self.set3(f, v, g, w, h, x, room),
+            Entry::Set4(f, v, g, w, h, x, k, y) => self.set4(f, v, g, w, h, x, k, y, room),
+            Entry::Wait(f, v) => self.wait(f, v, room),
+            Entry::Wait2(f, v, g, w) => self.wait2(f, v, g, w, room),
+            Entry::Check(f, v) => self.check(f, v, room),
+            Entry::Read(f) => self.once(4, field(f), 0, 0, 0, 0, 0, 0, 0, room),
+        }
+    }
+
+    #[tactic(auto, using(crate::proofs::Told::set_is))]
+    fn set(&mut self, f: usize, v: u32, room: &mut [u32]) {
+        self.once(1, field(f), v, 0, 0, 0, 0, 0, 0, room)
+    }
+
+    #[tactic(auto, using(crate::proofs::Told::set2_is))]
+    fn set2(&mut self, f: usize, v: u32, g: usize, w: u32, room: &mut [u32]) {
+        self.once(1, field(f), v, field(g), w, 0, 0, 0, 0, room)
+    }
+
+    #[tactic(auto, using(crate::proofs::Told::set3_is))]
+    fn set3(&mut self, f: usize, v: u32, g: usize, w: u32, h: usize, x: u32, room: &mut [u32]) {
+        self.once(1, field(f), v, field(g), w, field(h), x, 0, 0, room)
+    }
+
+    #[tactic(auto, using(crate::proofs::Told::set4_is))]
+    fn set4(
+        &mut self,
+        f: usize,
+        v: u32,
+        g: usize,
+        w: u32,
+        h: usize,
+        x: u32,
+        k: usize,
+        y: u32,
+        room: &mut [u32],
+    ) {
+        self.once(1, field(f), v, field(g), w, field(h), x, field(k), y, room)
+    }
+
+    #[tactic(auto, using(crate::proofs::Told::wait_is, crate::proofs::Told::ends_is))]
+    fn wait(&mut self, f: usize, v: u32, room: &mut [u32]) {
+        if self.down {
+            return;
+        }
+        self.at = wait(f, v, self.at, self.reads, room);
+    }
+
+    #[tactic(auto, using(crate::proofs::Told::wait_is, crate::proofs::Told::ends_is))]
+    fn wait2(&mut self, f: usize, v: u32, g: usize, w: u32, room: &mut [u32]) {
+        if self.down {
+            return;
+        }
+        self.at = wait2(f, v, g, w, self.at, self.reads, room);
+    }
+
+    // One that is not met ends the list.
+    #[tactic(auto, using(crate::proofs::Told::check_is, crate::proofs::Told::ends_is))]
+    fn check(&mut self, f: usize, v: u32, room: &mut [u32]) {
+        if self.down {
+            return;
+        }
+        nine(3, field(f), v, 0, 0, 0, 0, 0, 0, self.at, room);
+        self.down = other(self.reads, self.at, 0, v);
+        self.at = self.at.wrapping_add(1);
+    }
 }

@@ -1,19 +1,11 @@
 // A plan's page: every reported clock, the PLLs, the wait states; then what else is asked for.
 #![tactic(auto)]
 
-ghost use Rattle.std.specs.Prelude.{◌<◌};
-
-use types::{Hertz, Planned, Pll};
+use types::{Plan, PllSettings, Refusal};
 
 mod list;
 
-fn wide(n: u32) -> u64
-    ensures { result < 4294967296 }
-{
-    n as u64
-}
-
-fn clocks(report: &[u32], bank: &[u32], hse: Hertz) {
+fn clocks(report: &[u32], bank: &[u32], hse: Option<u32>) {
     print::say(b"clock            hertz  from\n");
     for k in 0..26 {
         let numbers = view::clock_line(report, bank, hse, k);
@@ -26,7 +18,7 @@ fn clocks(report: &[u32], bank: &[u32], hse: Hertz) {
     }
 }
 
-fn pll(n: u32, x: Pll, src: u32) {
+fn pll(n: u32, x: &Option<PllSettings>, src: u32) {
     let mut words: [u32; 18] = [0; 18];
     pll_words::store_pll(x, &mut words);
     let numbers = lines::pll_line(n, src, &words);
@@ -39,35 +31,25 @@ fn pll(n: u32, x: Pll, src: u32) {
 }
 
 // The clocks, the PLLs and the wait states.
-pub fn plan(x: Planned, bank: [u32; 82]) {
-    let p = x.plan;
-    let reported = p.clocks;
-    let hse = reported.hse;
-    let source = p.selectors.src;
+pub fn plan(p: &Plan, bank: &[u32; 82]) {
     let mut words: [u32; 55] = [0; 55];
     report::store_report(p, &mut words);
-    clocks(&words, &bank, hse);
-    let plls = p.plls;
-    let one = plls[0];
-    let two = plls[1];
-    let three = plls[2];
-    let pll1 = one.pll;
-    let pll2 = two.pll;
-    let pll3 = three.pll;
-    pll(1, pll1, source);
-    pll(2, pll2, source);
-    pll(3, pll3, source);
+    clocks(&words, bank, p.clocks.hse);
+    let source = p.selectors.src;
+    pll(1, &p.plls[0], source);
+    pll(2, &p.plls[1], source);
+    pll(3, &p.plls[2], source);
     print::clocks(
         b"flash       latency {0}, delay {1}\nentries     {2}\n",
         &[
-            wide(p.waits.latency),
-            wide(p.waits.delay),
-            entries::entry_count(x) as u64,
+            u64::from(p.waits.latency),
+            u64::from(p.waits.delay),
+            entries::entry_count(&Ok(*p)) as u64,
         ],
     );
 }
 
 // The entries, the bank or the request's bytes, by the sheet's byte behind the chip.
-pub fn also(x: Planned, bank: [u32; 82], sheet: &[u8]) {
+pub fn also(x: &Result<Plan, Refusal>, bank: &[u32; 82], sheet: &[u8]) {
     list::show(x, bank, sheet);
 }

@@ -1,9 +1,9 @@
 // A sheet planned: its plan, or its refusal with the page of docs/help.
 use crate::refused;
-use types::{Answer, Planned};
+use types::{Plan, Refusal};
 
 // What the planner answers to a sheet, in a bank at reset values.
-fn ask_planner(sheet: &[u8], bank: &mut [u32]) -> Planned {
+fn ask_planner(sheet: &[u8], bank: &mut [u32]) -> Result<Plan, Refusal> {
     let n = sheet::request_length(sheet);
     rcc::plan_bank(&sheet[..n], sheet::chip(sheet), bank)
 }
@@ -12,13 +12,12 @@ fn ask_planner(sheet: &[u8], bank: &mut [u32]) -> Planned {
 pub fn show(sheet: [u8; 115]) {
     let mut bank = fields::reset_bank();
     let x = ask_planner(&sheet, &mut bank);
-    let a = x.answer;
-    match a {
-        Answer::Accepted => page::plan(x, bank),
-        Answer::Refused(m) => {
-            refused::show(sheet, refusal::number_of(m));
-            help::page(refusal::number_of(m));
+    match &x {
+        Ok(plan) => page::plan(plan, &bank),
+        Err(n) => {
+            refused::show(sheet, refusal::number_of(*n));
+            help::page(refusal::number_of(*n));
         }
     }
-    page::also(x, bank, &sheet);
+    page::also(&x, &bank, &sheet);
 }

@@ -1,31 +1,20 @@
 // The words of the command line: arguments one after the other, and for @FILE what the file has.
-ghost use Rattle.std.specs.Prelude.{◌≤◌, length};
+ghost use Rattle.std.specs.Prelude.{◌≤◌, length, IfSome};
 
 use std::env::FillError;
 use std::fs::File;
 use std::io::Read;
 use std::rt::{Env, Files};
-use text::Number;
 
-// A byte at a place, where there is room for it; the place behind it.
-fn push(words: &mut [u8], at: usize, b: u8) -> usize {
-    if at < words.len() {
-        words[at] = b;
-        return at + 1;
-    }
-    at
-}
-
-// Copies s to a place on, and a blank behind it.
+// Copies s to a place on, and a blank behind it, as far as there is room; the place behind that.
 fn append(words: &mut [u8], at: usize, s: &[u8]) -> usize {
-    let mut to = at;
-    for i in 0..s.len() {
-        to = push(words, to, s[i]);
-    }
-    push(words, to, b' ')
+    text::store(words, at, s);
+    let end = at.saturating_add(s.len());
+    text::store(words, end, b" ");
+    end.saturating_add(1).min(words.len())
 }
 
-// Reads until there is no more room, the file ends or a read fails; how many bytes were read.
+// Reads until there is no more room, the file ends or a read fails; how many bytes were read. std's read_exact does not say how many.
 fn read_full(file: &mut impl Read, room: &mut [u8]) -> usize
     ensures { result ≤ length room.new }
 {
@@ -40,25 +29,21 @@ fn read_full(file: &mut impl Read, room: &mut [u8]) -> usize
     done
 }
 
-// What a file has; one that cannot be read stands as a wrong word.
-fn append_file(rt: &impl Files, words: &mut [u8], at: usize, word: &[u8]) -> usize
-    requires { 1 ≤ length word.now }
+// What a file has, as far as there is room; how many bytes.
+fn read_file(rt: &impl Files, path: &[u8], room: &mut [u8]) -> Option<usize>
+    ensures { IfSome result (λ n. n ≤ length room.new) }
 {
-    let Ok(path) = std::str::from_utf8(&word[1..]) else {
-        return append(words, at, word);
-    };
-    let Ok(mut file) = File::open(rt, path) else {
-        return append(words, at, word);
-    };
-    let mut room = io::buffer();
-    let n = read_full(&mut file, &mut room);
-    append(words, at, &room[..n])
+    let path = std::str::from_utf8(path).ok()?;
+    let mut file = File::open(rt, path).ok()?;
+    Some(read_full(&mut file, room))
 }
 
+// An argument, or for @FILE what the file has; one that cannot be read stands as a wrong word.
 fn append_argument(rt: &impl Files, words: &mut [u8], at: usize, word: &[u8]) -> usize {
-    if 1 < word.len() {
-        if word[0] == b'@' {
-            return append_file(rt, words, at, word);
+    let mut room = io::buffer();
+    if let Some(path) = word.strip_prefix(b"@") {
+        if let Some(n) = read_file(rt, path, &mut room) {
+            return append(words, at, &room[..n]);
         }
     }
     append(words, at, word)
@@ -78,27 +63,10 @@ pub fn gather(rt: &(impl Env + Files), words: &mut [u8]) -> usize {
     at
 }
 
-// 0 for no words, 1 for help, 2 for a request.
-pub fn first(words: &[u8]) -> usize {
-    if words.len() == 0 {
-        return 0;
-    }
-    let end = text::find(words, b' ');
-    match text::name_number(b"help        ", &words[..end]) {
-        0 => 1,
-        _ => 2,
-    }
-}
-
-// The page of a refusal, or the words: the number stands behind help and a blank, and a blank stands behind it.
-pub fn help(words: &[u8]) {
-    if words.len() < 7 {
-        help::usage();
-        return;
-    }
-    let end = words.len() - 1;
-    match text::whole(&words[5..end]) {
-        Number::Is(number) => help::page(number),
-        Number::Wrong => help::usage(),
+// The page of a refusal by its number, which a blank stands behind, or the words that there are.
+pub fn help(number: &[u8]) {
+    match text::whole(number.strip_suffix(b" ").unwrap_or(number)) {
+        Some(n) => help::page(n),
+        None => help::usage(),
     }
 }

@@ -17,20 +17,20 @@ fn main(rt: HostRuntime) {
 
 // Help, or a request.
 fn run(words: &[u8]) {
-    match input::first(words) {
-        0 => help::usage(),
-        1 => input::help(words),
-        _ => plan(words),
+    if words.is_empty() {
+        help::usage();
+    } else if let Some(number) = words.strip_prefix(b"help ") {
+        input::help(number);
+    } else {
+        plan(words);
     }
 }
 
 // A request: its plan, or its refusal, or the word that is wrong.
 fn plan(words: &[u8]) {
     let mut sheet = sheet::fresh();
-    let taken = ask::take_all(&mut sheet, words);
-    if taken.wrong != 0 {
-        help::wrong_word(words, taken);
-        return;
+    match ask::take_all(&mut sheet, words) {
+        Ok(()) => answer::show(sheet),
+        Err(w) => help::wrong_word(words, w),
     }
-    answer::show(sheet);
 }

@@ -1,4 +1,5 @@
 -- Laws of one PLL from its outputs' span to M, each at the place where the code takes it.
+use Rattle.std.specs.Prelude.{Option, Some, None, Result, Err, unwrap_or, is_some}
 use mathlib.Core.Path.{◌≡◌, sym, ap, ◌∙◌, subst}
 use mathlib.Core.Bool.{Bool, true, ◌&&◌, ◌||◌}
 use Prim.Native.Nat.{ℕ, ◌*◌, ◌/◌, ◌≤◌, ◌<◌}
@@ -6,18 +7,16 @@ use native.Mathlib.Omega.{arith}
 use native.Mathlib.Nat.{le_trans, mul-le-mul_left}
 use lib.Dec.{leb}
 use borrow.Author.Tests.{le-leb, lt-leb, lt-ltb}
-use Rattle.types.specs.declared.Hertz.{Hertz}
-use Rattle.types.specs.declared.Hertz.TheVariants.{Unset, Hz}
+use Rattle.std.specs.Option.{option_or}
+use Rattle.types.specs.declared.Refusal.{Refusal}
+use Rattle.types.specs.declared.PllSettings.{PllSettings}
 use Rattle.types.specs.declared.PllRequest.{PllRequest}
-use Rattle.types.specs.declared.Pll.{Pll}
-use Rattle.types.specs.declared.FoundM.{FoundM}
-use Rattle.types.specs.declared.FoundM.TheVariants.{Nothing, M}
 use Rattle.types.specs.declared.Refusal.TheVariants.{TargetOutside, NoM}
-use Rattle.rules.specs.Document01.Result.{Result, ◌>>=◌, refused}
-use Rattle.rules.specs.Document01.Hertz.{is_set, not_zero, hertz_or, or_else}
+use Rattle.rules.specs.Document01.Result.{◌>>=◌}
+use Rattle.rules.specs.Document01.Hertz.{not_zero}
 use Rattle.rules.specs.Document01.ChoiceOfM.{chosen_m, Admissible}
 use Rattle.rules.specs.Document01.Target.{target_of}
-use Rattle.rules.specs.Document01.OnePll.{counted_p, counted_outputs, least, largest, Range, range_of, divided_by, settled, running}
+use Rattle.rules.specs.Document01.OnePll.{counted_p, counted_outputs, least, largest, Range, range_of, divided_by, settled}
 use Rattle.laws.proofs.Tests.{and_left, and_right}
 use Rattle.laws.proofs.Numbers.{le_div}
 use Rattle.rules.proofs.Document01.ChoiceOfM.{chosen_some}
@@ -29,19 +28,19 @@ use Rattle.pll.specs.Spans.{Spanned}
 use Rattle.pll.specs.Settle.{HasDivider, Settles, settled_for}
 
 -- ---- dividers
-with_some : (target : ℕ) (h : Hertz) → Pos h → SomeDivider target h → HasDivider target h
-with_some target Unset p d = tt
-with_some target (Hz h) p d = (p, d)
+with_some : (target : ℕ) (h : Option ℕ) → Pos h → SomeDivider target h → HasDivider target h
+with_some target None p d = tt
+with_some target (Some h) p d = (p, d)
 
-with_both : (target : ℕ) (h : Hertz) → Pos h → Divides target h → HasDivider target h
-with_both target Unset p d = tt
-with_both target (Hz h) p d = (p, d.0)
+with_both : (target : ℕ) (h : Option ℕ) → Pos h → Divides target h → HasDivider target h
+with_both target None p d = tt
+with_both target (Some h) p d = (p, d.0)
 
-first_pos : (p q r : Hertz) → Pos p → Pos q → Pos r → is_set p || (is_set q || is_set r) ≡ true → 1 ≤ hertz_or (or_else p (or_else q r)) 0
-first_pos (Hz p) q r i j k w = i
-first_pos Unset (Hz q) r i j k w = j
-first_pos Unset Unset (Hz r) i j k w = k
-first_pos Unset Unset Unset i j k w = absurd (let z : ◌≡◌ {A = ℕ} 0 1 = cc in omega arith)
+first_pos : (p q r : Option ℕ) → Pos p → Pos q → Pos r → is_some p || (is_some q || is_some r) ≡ true → 1 ≤ unwrap_or (option_or p (option_or q r)) 0
+first_pos (Some p) q r i j k w = i
+first_pos None (Some q) r i j k w = j
+first_pos None None (Some r) i j k w = k
+first_pos None None None i j k w = absurd (let z : ◌≡◌ {A = ℕ} 0 1 = cc in omega arith)
 
 module _ (odd : Bool) (source : ℕ) (a : PllRequest) (low most : ℕ) (sp : Spanned odd source a low most) where
   abbrev g : Range
@@ -75,36 +74,33 @@ module _ (odd : Bool) (source : ℕ) (a : PllRequest) (low most : ℕ) (sp : Spa
   pub searched : (1 ≤ source) × (target < 2_147_483_648)
   searched = (sp.source_above, small)
 
-  pub starts : (1 ≤ low) × (1 ≤ most)
-  starts = let e = ends in omega arith
-
   -- the rules speak of the same range and target
-  abbrev after : ℕ → ℕ → Result Pll
+  abbrev after : ℕ → ℕ → Result PllSettings Refusal
   after lo mo =
-      running (divided_by source (range_of mo) (target_of lo mo (range_of mo).end)
-      >>= λ m. settled odd a (range_of mo) (target_of lo mo (range_of mo).end) m (source / m) (target_of lo mo (range_of mo).end / (source / m)))
+      divided_by source (range_of mo) (target_of lo mo (range_of mo).end)
+      >>= λ m. settled odd a (range_of mo) (target_of lo mo (range_of mo).end) m (source / m) (target_of lo mo (range_of mo).end / (source / m))
 
   same : after_span odd source a ≡ after low most
   unfolding after_span
   same = ap (λ (x : ℕ). after x (largest (counted_outputs odd a))) (sym sp.low_is) ∙ ap (λ (x : ℕ). after low x) (sym sp.most_is)
 
   -- ---- refusals 10 and 11
-  pub outside : target < g.start → refused TargetOutside ≡ after_span odd source a
+  pub outside : target < g.start → Err TargetOutside ≡ after_span odd source a
   unfolding divided_by
   outside h = rw (same, lt-leb g.start target h)
 
-  abbrev chosen : FoundM
+  abbrev chosen : Option ℕ
   chosen = chosen_m source target g.low g.high
 
   within : g.start ≤ target → leb g.start target && leb target g.end ≡ true
   within h = rw (le-leb g.start target h, le-leb target g.end (target_le low most g.end))
 
-  pub no_m : g.start ≤ target → chosen ≡ Nothing → refused NoM ≡ after_span odd source a
+  pub no_m : g.start ≤ target → chosen ≡ None → Err NoM ≡ after_span odd source a
   unfolding divided_by
   no_m h e = rw (same, within h, e)
 
   -- ---- what follows
-  module _ (from : g.start ≤ target) (m : ℕ) (is : chosen ≡ M m) where
+  module _ (from : g.start ≤ target) (m : ℕ) (is : chosen ≡ Some m) where
     admits : Admissible source g.low g.high m
     admits = (chosen_some source target g.low g.high m is).admissible
 
@@ -127,6 +123,6 @@ module _ (odd : Bool) (source : ℕ) (a : PllRequest) (low most : ℕ) (sp : Spa
           has_r = with_both target a.r pos_r (divider_q low most g b.0 b.1 good sp.near t1 a.r in_r pos_r);
         }
 
-    pub rest : running (settled_for odd a g.vcosel target m (source / m)) ≡ after_span odd source a
+    pub rest : settled_for odd a g.vcosel target m (source / m) ≡ after_span odd source a
     unfolding divided_by settled_for settled
     rest = rw (same, within from, is)

@@ -1,4 +1,3 @@
 pub mod Search
 pub mod Settled
 pub mod Divided
-pub mod Spanning

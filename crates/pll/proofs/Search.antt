@@ -1,4 +1,5 @@
 -- Laws of the search for M: no M before the first or after the last is in range, and the best so far as two numbers.
+use Rattle.std.specs.Prelude.{Option, Some, None}
 use mathlib.Core.Path.{◌≡◌, refl, sym, ap, ◌∙◌}
 use mathlib.Core.Bool.{Bool, true, false, ◌&&◌}
 use mathlib.Core.Logic.{◌⊎◌, inl, inr}
@@ -9,8 +10,6 @@ use lib.Dec.{leb}
 use lib.IntN.{ℤ, pos}
 use lib.Signed.{lt_z}
 use borrow.Author.Tests.{lt-leb, leb-true, leb-false, ltb-false}
-use Rattle.types.specs.declared.FoundM.{FoundM}
-use Rattle.types.specs.declared.FoundM.TheVariants.{Nothing, M}
 use Rattle.laws.proofs.Tests.{by_test}
 use Rattle.laws.proofs.Numbers.{div_pos, div_le, above}
 use Rattle.rules.specs.Document01.ChoiceOfM.{in_range, shortfall_of, best_to}
@@ -63,7 +62,7 @@ module _ (source low high : ℕ) where
       in_range_is source low high k ((le-div_iff_mul-le {k = low} {x = k} {y = source} l).0 t) (let p : source - 1 < k * high = (div-lt_iff_lt-mul {k = high} {x = source - 1} {y = k} h).0 f in omega arith)
 
 module _ (source target low high : ℕ) where
-  abbrev best : ℕ → FoundM
+  abbrev best : ℕ → Option ℕ
   best = best_to source target low high
 
   -- M that are out of range change nothing
@@ -80,17 +79,17 @@ module _ (source target low high : ℕ) where
   abbrev short : ℕ → ℕ
   short = shortfall_of source target
 
-  abbrev pub Held : FoundM → (best : ℕ) (least : ℤ) → Type 0
-  Held f best least = (f ≡ M best) × (least ≡ pos (short best))
+  abbrev pub Held : Option ℕ → (best : ℕ) (least : ℤ) → Type 0
+  Held f best least = (f ≡ Some best) × (least ≡ pos (short best))
 
-  abbrev pub Kept : FoundM → (best : ℕ) (least : ℤ) → Type 0
-  Kept f best least = ((f ≡ Nothing) × (least ≡ pos 2_147_483_647)) ⊎ Held f best least
+  abbrev pub Kept : Option ℕ → (best : ℕ) (least : ℤ) → Type 0
+  Kept f best least = ((f ≡ None) × (least ≡ pos 2_147_483_647)) ⊎ Held f best least
 
-  pub moved : {f : FoundM} {k b : ℕ} {l n : ℤ} → b ≡ k → n ≡ l → Held f k l → Held f b n
-  moved e g h = (h.0 ∙ ap M (sym e), g ∙ h.1 ∙ ap (λ (x : ℕ). pos (short x)) (sym e))
+  pub moved : {f : Option ℕ} {k b : ℕ} {l n : ℤ} → b ≡ k → n ≡ l → Held f k l → Held f b n
+  moved e g h = (h.0 ∙ ap Some (sym e), g ∙ h.1 ∙ ap (λ (x : ℕ). pos (short x)) (sym e))
 
   -- below the first M that is in range nothing is held
-  pub none_held : (m : ℕ) → 1 ≤ m → ((k : ℕ) → k < m → in_range source low high k ≡ false) → best_to source target low high (m - 1) ≡ Nothing
+  pub none_held : (m : ℕ) → 1 ≤ m → ((k : ℕ) → k < m → in_range source low high k ≡ false) → best_to source target low high (m - 1) ≡ None
   none_held m o out = best_same source target low high 0 (m - 1) (omega arith) (λ k l h. out k (omega arith)) ∙ best_none source target low high
 
   -- a shortfall is below the reference

@@ -1,31 +1,23 @@
 -- For the private functions: the outputs of a PLL one after the other, and a VCO range.
-use Rattle.std.specs.Prelude.{◌≡◌, Bool, true, cond, ℕ, ◌/◌, ◌≤◌, ◌<◌, min, max, ltb}
-use Rattle.types.specs.declared.Hertz.{Hertz}
-use Rattle.types.specs.declared.Hertz.TheVariants.{Unset, Hz}
+use Rattle.std.specs.Prelude.{◌≡◌, Bool, true, cond, ℕ, ◌/◌, ◌≤◌, ◌<◌, min, max, ltb, Option, Some, None}
 use Rattle.types.specs.declared.PllRequest.{PllRequest}
-use Rattle.rules.specs.Document01.OnePll.{none_zero, wanted, counted_p, counted_outputs, least, largest, range_of}
-use Rattle.pll.specs.declared.outputs.Outputs.{Outputs}
-use Rattle.pll.specs.declared.outputs.Outputs.TheVariants.{Nothing, Between}
+use Rattle.rules.specs.Document01.OnePll.{none_zero, wanted, counted_outputs, least, largest, range_of}
+use Rattle.pll.specs.declared.outputs.Span.{Span}
 use Rattle.pll.specs.declared.vco.VcoRange.{VcoRange}
 
 -- One PLL, first point: min and max, the least and largest counted output; step 4: nothing where no output is requested
-unfoldable pub span_of : (odd : Bool) → PllRequest → Outputs
-span_of odd a = cond (wanted a) (Between (least (counted_outputs odd a)) (largest (counted_outputs odd a))) Nothing
+unfoldable pub span_of : (odd : Bool) → PllRequest → Option Span
+span_of odd a = cond (wanted a) (Some (record { least = least (counted_outputs odd a); most = largest (counted_outputs odd a) })) None
 
 -- One PLL, first point, one output after the other: min and max of those so far and one of so many hertz
-abbrev pub with_hertz : Outputs → ℕ → Outputs
-with_hertz Nothing h = Between h h
-with_hertz (Between low most) h = Between (min low h) (max most h)
+abbrev pub with_hertz : Option Span → ℕ → Span
+with_hertz None h = record { least = h; most = h }
+with_hertz (Some s) h = record { least = min s.least h; most = max s.most h }
 
 -- One PLL, first point: those so far and the next, if it is requested
-abbrev pub with_output : Outputs → Hertz → Outputs
-with_output s Unset = s
-with_output s (Hz h) = with_hertz s h
-
--- One PLL, first point: P, which comes first, as it counts
-abbrev pub span_of_p : (odd : Bool) → Hertz → Outputs
-span_of_p odd Unset = Nothing
-span_of_p odd (Hz h) = Between (counted_p odd h) (counted_p odd h)
+abbrev pub with_output : Option Span → Option ℕ → Option Span
+with_output s None = s
+with_output s (Some h) = Some (with_hertz s h)
 
 -- step 4 and refusals 7, 8 and 9: an output is requested, the outputs span from low to most, and none of the three fits
 pub record Spanned (odd : Bool) (source : ℕ) (a : PllRequest) (low most : ℕ) : Type 0 where

@@ -3,8 +3,6 @@ ghost use Rattle.std.specs.Prelude.{◌≡◌, ◌+◌, ◌-◌, ◌/◌, ◌≤
 ghost use Rattle.rules.specs.Document01.ChoiceOfM.{shortfall_of, chosen_m};
 ghost use Rattle.pll.specs.Search.{low_of, high_of, Divides};
 
-use types::FoundM;
-
 // (2^32 - 1) / m, for each M. An arm for each is a table; a constant array would be laid out at each use.
 fn reciprocal(m: u32) -> u32
     requires { (1 ≤ m) × (m ≤ 63) }
@@ -113,30 +111,21 @@ fn last_m(medium: bool, source: u32) -> u32
     ensures { result ≡ min (source / low_of medium) 63 }
 {
     if medium {
-        return up_to_63(source / 1_000_000);
+        return (source / 1_000_000).min(63);
     }
-    up_to_63(source / 2_000_000)
-}
-
-fn up_to_63(last: u32) -> u32
-    ensures { result ≡ min last 63 }
-{
-    if last < 63 {
-        return last;
-    }
-    63
+    (source / 2_000_000).min(63)
 }
 
 // The search over all M from the first to the last that is admissible. The best so far is two numbers, M and its shortfall; before the first
 // stands a shortfall above every other.
-pub fn search_m(source: u32, target: u32, medium: bool) -> FoundM
+pub fn search_m(source: u32, target: u32, medium: bool) -> Option<u32>
     requires { (1 ≤ source) × (target < 2147483648) }
     ensures { result ≡ chosen_m source target (low_of medium) (high_of medium) }
 {
     let first = first_m(medium, source);
     let last = last_m(medium, source);
     if last < first {
-        return FoundM::Nothing;
+        return None;
     }
     let mut best = first;
     let mut least = 2_147_483_647;
@@ -147,5 +136,5 @@ pub fn search_m(source: u32, target: u32, medium: bool) -> FoundM
             least = short;
         }
     }
-    FoundM::M(best)
+    Some(best)
 }

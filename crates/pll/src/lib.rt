@@ -3,12 +3,10 @@
 
 ghost use Rattle.std.specs.Prelude.{◌≡◌, true, ◌≤◌};
 ghost use Rattle.rules.specs.Document01.OnePll.{none_zero, pll_of};
-ghost use Rattle.rules.specs.Answers.{pll_result};
 ghost use Rattle.pll.specs.Answer.{one_pll_of, after_span};
 ghost use Rattle.pll.specs.Spans.{Spanned};
 
-use outputs::Outputs;
-use types::{FoundM, Pll, PllAnswer, PllRequest, Refusal};
+use types::{PllRequest, PllSettings, Refusal};
 
 mod choice;
 mod outputs;
@@ -16,51 +14,54 @@ mod settle;
 mod vco;
 
 // One PLL of a source of so many hertz: idle, its settings, or a refusal of 6 to 15, in the order of the numbers.
-pub fn plan_pll(odd: bool, source: u32, request: PllRequest) -> PllAnswer
-    ensures { pll_result result ≡ one_pll_of odd source request }
+#[tactic(auto, unfolding(crate::specs::Answer::one_pll_of, rules::specs::Document01::OnePll::pll_of, rules::specs::Document01::OnePll::runs, rules::specs::Document01::OnePll::spanned))]
+pub fn plan_pll(odd: bool, source: u32, request: PllRequest) -> Result<Option<PllSettings>, Refusal>
+    ensures { result ≡ one_pll_of odd source request }
 {
     if source == 0 {
-        return PllAnswer::Refused(Refusal::SourceZero);
+        return Err(Refusal::SourceZero);
     }
     if !outputs::none_zero(request) {
-        return PllAnswer::Refused(Refusal::OutputZero);
+        return Err(Refusal::OutputZero);
     }
     run_pll(odd, source, request)
 }
 
 // Idle, or refusals 8 and 9.
-fn run_pll(odd: bool, source: u32, request: PllRequest) -> PllAnswer
+#[tactic(auto, unfolding(crate::specs::Answer::after_span, crate::specs::Spans::span_of, rules::specs::Document01::OnePll::pll_of, rules::specs::Document01::OnePll::runs, rules::specs::Document01::OnePll::spanned))]
+fn run_pll(odd: bool, source: u32, request: PllRequest) -> Result<Option<PllSettings>, Refusal>
     requires { (1 ≤ source) × (none_zero request ≡ true) }
-    ensures { pll_result result ≡ pll_of odd source request }
+    ensures { result ≡ pll_of odd source request }
 {
-    match outputs::span_of(odd, request) {
-        Outputs::Nothing => return PllAnswer::Planned(Pll::Idle),
-        Outputs::Between(least, most) => {
-            if least < most / 128 {
-                return PllAnswer::Refused(Refusal::OutputsTooFarApart);
-            }
-            if 560_000_000 <= most {
-                return PllAnswer::Refused(Refusal::OutputTooHigh);
-            }
-            return divide(odd, source, request, least as u32, most as u32);
-        }
+    let Some(s) = outputs::span_of(odd, request) else {
+        return Ok(None);
+    };
+    if s.least < s.most / 128 {
+        return Err(Refusal::OutputsTooFarApart);
     }
+    if 560_000_000 <= s.most {
+        return Err(Refusal::OutputTooHigh);
+    }
+    let settings = divide(odd, source, request, s.least as u32, s.most as u32)?;
+    Ok(Some(settings))
 }
 
 // Refusals 10 and 11: the VCO's range and target, and M.
-fn divide(odd: bool, source: u32, request: PllRequest, least: u32, most: u32) -> PllAnswer
+fn divide(
+    odd: bool,
+    source: u32,
+    request: PllRequest,
+    least: u32,
+    most: u32,
+) -> Result<PllSettings, Refusal>
     requires { Spanned odd source request least most }
-    ensures { pll_result result ≡ after_span odd source request }
+    ensures { result ≡ after_span odd source request }
 {
     let g = vco::range_of(most);
     let target = vco::target_of(least, most, g.end);
     if target < g.start {
-        return PllAnswer::Refused(Refusal::TargetOutside);
+        return Err(Refusal::TargetOutside);
     }
-    match choice::search_m(source, target, g.medium) {
-        FoundM::Nothing => return PllAnswer::Refused(Refusal::NoM),
-        FoundM::M(m) => {
-            return settle::settle(odd, request, g.vcosel, target, m, source / m);
-        }
-    }
+    let m = choice::search_m(source, target, g.medium).ok_or(Refusal::NoM)?;
+    settle::settle(odd, request, g.vcosel, target, m, source / m)
 }

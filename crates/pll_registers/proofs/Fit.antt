@@ -1,19 +1,13 @@
 -- Every field that the rules choose fits its bits: a mask takes nothing away (document 02, Item 1). By what demand 2 says of a plan.
+use Rattle.std.specs.Prelude.{Option, Some, None}
 use mathlib.Core.Bool.{Bool}
 use Prim.Native.Nat.{ℕ, zero, suc, ◌-◌, ◌≤◌, ◌<◌}
 use native.Mathlib.Omega.{arith}
-use Rattle.types.specs.declared.Hertz.{Hertz}
-use Rattle.types.specs.declared.Hertz.TheVariants.{Unset, Hz}
 use Rattle.types.specs.declared.Strategy.{Strategy}
 use Rattle.types.specs.declared.Strategy.TheVariants.{Integer, Fractional}
 use Rattle.types.specs.declared.PllOutput.{PllOutput}
-use Rattle.types.specs.declared.PllOutput.TheVariants.{Off, On}
-use Rattle.types.specs.declared.Fraction.{Fraction}
-use Rattle.types.specs.declared.Fraction.TheVariants.{Whole, Part}
 use Rattle.types.specs.declared.PllRequest.{PllRequest}
 use Rattle.types.specs.declared.PllSettings.{PllSettings}
-use Rattle.types.specs.declared.Pll.{Pll}
-use Rattle.types.specs.declared.Pll.TheVariants.{Idle, Runs}
 use Rattle.rules.specs.Document01.Plan.{src_of}
 use Rattle.rules.specs.Manual.PllFields.{Within, rge_span, vco_span}
 use Rattle.claims.specs.Demands.Legal.{LegalOutput, LegalVco, LegalPll}
@@ -34,27 +28,27 @@ vcosel_fits zero target w = omega arith
 vcosel_fits (suc zero) target w = omega arith
 vcosel_fits (suc (suc code)) target w = absurd (omega (arith, w.from, w.to))
 
-divider_fits : (vco : ℕ) (h : Hertz) (o : PllOutput) → LegalOutput vco h o → divider_of o - 1 < 128
-divider_fits vco h Off l = omega arith
-divider_fits vco Unset (On d x) l = absurd l
-divider_fits vco (Hz w) (On d x) l = omega (arith, l.field)
+divider_fits : (vco : ℕ) (h : Option ℕ) (o : Option PllOutput) → LegalOutput vco h o → divider_of o - 1 < 128
+divider_fits vco h None l = omega arith
+divider_fits vco None (Some o) l = absurd l
+divider_fits vco (Some w) (Some o) l = omega (arith, l.field)
 
-fracen_fits : (f : Fraction) → fracen_of f < 2
-fracen_fits Whole = omega arith
-fracen_fits (Part f) = omega arith
+fracen_fits : (f : Option ℕ) → fracen_of f < 2
+fracen_fits None = omega arith
+fracen_fits (Some f) = omega arith
 
-fracn_fits : (g : Strategy) (source first : ℕ) (s : PllSettings) (f : Fraction) → LegalVco g source first s f → fracn_of f < 8192
-fracn_fits g source first s Whole l = omega arith
-fracn_fits Integer source first s (Part f) l = absurd l
-fracn_fits Fractional source first s (Part f) l = omega (arith, l.field)
+fracn_fits : (g : Strategy) (source first : ℕ) (s : PllSettings) (f : Option ℕ) → LegalVco g source first s f → fracn_of f < 8192
+fracn_fits g source first s None l = omega arith
+fracn_fits Integer source first s (Some f) l = absurd l
+fracn_fits Fractional source first s (Some f) l = omega (arith, l.field)
 
-pub src_fits : (hse : Hertz) → src_of hse < 4
-src_fits Unset = omega arith
-src_fits (Hz h) = omega arith
+pub src_fits : (hse : Option ℕ) → src_of hse < 4
+src_fits None = omega arith
+src_fits (Some h) = omega arith
 
 -- ---- one PLL, idle or not
-pub pll_fits : (src : ℕ) (odd : Bool) (source : ℕ) (a : PllRequest) (x : Pll) → src < 4 → LegalPll odd source a x → Fit (fields_of src x)
-pll_fits src odd source a Idle h l = record {
+pub pll_fits : (src : ℕ) (odd : Bool) (source : ℕ) (a : PllRequest) (x : Option PllSettings) → src < 4 → LegalPll odd source a x → Fit (fields_of src x)
+pll_fits src odd source a None h l = record {
   src = h;
   rge = omega arith;
   fracen = omega arith;
@@ -66,7 +60,7 @@ pll_fits src odd source a Idle h l = record {
   q = omega arith;
   r = omega arith;
 }
-pll_fits src odd source a (Runs s) h l = record {
+pll_fits src odd source a (Some s) h l = record {
   src = h;
   rge = rge_fits s.rge source s.m l.m.from l.rge;
   fracen = fracen_fits s.fraction;

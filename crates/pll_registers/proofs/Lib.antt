@@ -5,7 +5,6 @@ pub mod Bank
 pub mod Planned
 pub mod Stored
 pub mod Registers
-pub mod Answers
 pub mod Decided
 pub mod Settings
 pub mod Unweakened

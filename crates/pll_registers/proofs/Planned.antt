@@ -1,24 +1,26 @@
 -- What is known of a request that is answered with a plan: its source, its PLLs, and how many the chip has.
-use mathlib.Core.Path.{◌≡◌, refl, ◌∙◌, subst}
+use Rattle.std.specs.Prelude.{Result, Ok}
+use mathlib.Core.Path.{◌≡◌, refl, ◌∙◌, subst, sym}
 use mathlib.Core.Bool.{Bool, true, false, ◌||◌, ◌&&◌}
 use mathlib.Core.List.{List}
 use Prim.Native.Nat.{ℕ, zero, suc, ◌≤◌, ◌<◌}
 use native.Mathlib.Omega.{arith}
 use lib.Dec.{eqb, ltb}
 use borrow.Author.Tests.{eq-eqb, eqb-true}
+use Rattle.types.specs.declared.Refusal.{Refusal}
 use Rattle.types.specs.declared.Chip.{Chip}
 use Rattle.types.specs.declared.Request.{Request}
 use Rattle.types.specs.declared.ChipState.{ChipState}
 use Rattle.types.specs.declared.Plan.{Plan}
-use Rattle.types.specs.declared.Answer.TheVariants.{Accepted}
 use Rattle.types.specs.declared.Refusal.TheVariants.{OutsideCodes}
-use Rattle.rules.specs.Document01.Result.{Result, refused, ok, ◌>>=◌, require}
+use Rattle.rules.specs.Document01.Result.{require}
 use Rattle.rules.specs.Document01.Chip.{is_bit, is_hsidiv, permission, chip_of, odd_at}
 use Rattle.rules.specs.Document01.Bytes.{request_part}
 use Rattle.rules.specs.Document01.Request.{source_of, asked_of}
 use Rattle.rules.specs.Document01.Entries.{pll_in}
-use Rattle.rules.specs.Document01.Plan.{src_of, plls_of, hsi_ready, system_from, buses_of, mcos_of, plan_with, chosen_plan, answered, answer_to, Asked, request_of, plan_of}
-use Rattle.rules.proofs.Document01.Results.{Holds, holds_then, holds_next, holds_tested, holds_known}
+use Rattle.types.specs.declared.Asked.{Asked}
+use Rattle.rules.specs.Document01.Plan.{src_of, plls_of, hsi_ready, system_from, buses_of, mcos_of, plan_with, chosen_plan, request_of, plan_of}
+use Rattle.rules.proofs.Document01.Results.{Holds, holds_then, holds_next, holds_tested, holds_known, bind_ok}
 use Rattle.claims.specs.Demands.Legal.{LegalPll, LegalThird, LegalPlan}
 use Rattle.claims.proofs.Demands.{typed, demand_2_legal}
 
@@ -32,10 +34,6 @@ chosen_takes q c =
     holds_then (Taken q c) (plls_of q c) _
     (λ l. holds_next (Taken q c) (hsi_ready c) _
     (holds_then (Taken q c) (buses_of q (system_from q l)) _ (λ b. holds_then (Taken q c) (mcos_of q l (system_from q l)) _ (λ m. (refl, refl)))))
-
-takes : (q : Request) (c : ChipState) (x : Result Plan) → Holds (Taken q c) x → (answered x).answer ≡ Accepted → Taken q c (answered x).plan
-takes q c (refused n) h e = absurd (let z : ◌≡◌ {A = ℕ} 0 1 = cc in omega arith)
-takes q c (ok p) h e = h
 
 -- ---- the chip's PLLs: two or three
 record Counted (plls : ℕ) (three : Bool) : Type 0 where
@@ -62,7 +60,7 @@ unfolding request_of
 asked_counts bytes chip =
     holds_known _ (λ c. Counted chip.plls c.three) (chip_of chip) _ (chip_counts chip) (λ c h. holds_then _ (request_part c.three bytes) _ (λ q. h))
 
-counted : (bytes : List ℕ) (chip : Chip) (r : Result Asked) (a : Asked) → Holds (λ x. Counted chip.plls x.chip.three) r → r ≡ ok a → Counted chip.plls a.chip.three
+counted : (bytes : List ℕ) (chip : Chip) (r : Result Asked Refusal) (a : Asked) → Holds (λ x. Counted chip.plls x.chip.three) r → r ≡ Ok a → Counted chip.plls a.chip.three
 counted bytes chip r a h e = subst (Holds (λ x. Counted chip.plls x.chip.three)) e h
 
 -- ---- all of it
@@ -78,35 +76,28 @@ third_legal false odd source a p t l = absurd (let z : ◌≡◌ {A = ℕ} 0 1 =
 
 module _ (bytes : List ℕ) (chip : Chip) where
   -- an answer with a plan is that of a request
-  pub asked : (plan_of bytes chip).answer ≡ Accepted → (a : Asked) × (request_of bytes chip ≡ ok a)
+  pub asked : (p : Plan) → plan_of bytes chip ≡ Ok p → (a : Asked) × (request_of bytes chip ≡ Ok a)
   unfolding plan_of
-  asked = go (request_of bytes chip)
-    where
-      go : (r : Result Asked) → (answered (r >>= λ a. chosen_plan a.request a.chip)).answer ≡ Accepted → (a : Asked) × (r ≡ ok a)
-      go (refused n) e = absurd (let z : ◌≡◌ {A = ℕ} 0 1 = cc in omega arith)
-      go (ok a) e = (a, refl)
+  asked p e = let t = bind_ok (request_of bytes chip) (λ a. chosen_plan a.request a.chip) p e in (t.0, t.1)
 
-  module _ (a : Asked) (is : request_of bytes chip ≡ ok a) (accepted : (plan_of bytes chip).answer ≡ Accepted) where
-    legal_plan : LegalPlan a.request a.chip (plan_of bytes chip).plan
-    legal_plan = demand_2_legal bytes chip a is accepted
+  module _ (a : Asked) (is : request_of bytes chip ≡ Ok a) (p : Plan) (accepted : plan_of bytes chip ≡ Ok p) where
+    legal_plan : LegalPlan a.request a.chip p
+    legal_plan = demand_2_legal bytes chip a p is accepted
 
-    taken : Taken a.request a.chip (plan_of bytes chip).plan
-    unfolding answer_to
-    taken =
-        rw (typed bytes chip a is)
-        (takes a.request a.chip (chosen_plan a.request a.chip) (chosen_takes a.request a.chip) (rw (← typed bytes chip a is) accepted))
+    taken : Taken a.request a.chip p
+    taken = subst (Holds (Taken a.request a.chip)) (sym (typed bytes chip a is) ∙ accepted) (chosen_takes a.request a.chip)
 
     counts : Counted chip.plls a.chip.three
     counts = counted bytes chip (request_of bytes chip) a (asked_counts bytes chip) is
 
-    legal_at : (k : ℕ) → k < chip.plls → LegalPll (odd_at a.chip k) (source_of a.request) (asked_of a.request k) (pll_in (plan_of bytes chip).plan k)
+    legal_at : (k : ℕ) → k < chip.plls → LegalPll (odd_at a.chip k) (source_of a.request) (asked_of a.request k) (pll_in p k)
     legal_at zero h = legal_plan.pll1
     legal_at (suc zero) h = legal_plan.pll2
     legal_at (suc (suc zero)) h =
-        third_legal a.chip.three (odd_at a.chip 2) (source_of a.request) a (plan_of bytes chip).plan (counts.third (omega (arith, h, counts.most))) legal_plan.pll3
+        third_legal a.chip.three (odd_at a.chip 2) (source_of a.request) a p (counts.third (omega (arith, h, counts.most))) legal_plan.pll3
     legal_at (suc (suc (suc k))) h = absurd (omega (arith, h, counts.most))
 
-    pub known : Known chip a (plan_of bytes chip).plan
+    pub known : Known chip a p
     unfolding Taken
     known = record {
       src = taken.0;

@@ -1,4 +1,5 @@
 -- Document 02, Item 1: the theorems.
+use Rattle.std.specs.Prelude.{Option, Some, None, Ok}
 use mathlib.Core.Path.{◌≡◌, refl, sym, ◌∙◌, ap, subst}
 use mathlib.Core.Bool.{Bool, true, false, cond}
 use mathlib.Core.List.{List, [], ◌∷◌, ◌++◌}
@@ -6,21 +7,19 @@ use Prim.Native.Nat.{ℕ, zero, suc, ◌+◌, ◌*◌, ◌≤◌, ◌<◌}
 use native.Mathlib.Nat.{mod-eq_of_lt}
 use native.Mathlib.Omega.{arith}
 use lib.ListN.{length, get_or}
+use Rattle.types.specs.declared.PllSettings.{PllSettings}
 use Rattle.types.specs.declared.Chip.{Chip}
 use Rattle.types.specs.declared.PllRequest.{PllRequest}
-use Rattle.types.specs.declared.Pll.{Pll}
-use Rattle.types.specs.declared.Pll.TheVariants.{Idle, Runs}
 use Rattle.types.specs.declared.Plan.{Plan}
-use Rattle.types.specs.declared.Answer.TheVariants.{Accepted}
 use Rattle.laws.proofs.Tests.{never}
-use Rattle.rules.specs.Document01.Result.{ok}
 use Rattle.rules.specs.Document01.Fields.{of_pll}
 use Rattle.rules.specs.Document01.Request.{source_of, asked_of}
 use Rattle.rules.specs.Document01.OnePll.{wanted}
 use Rattle.rules.specs.Document01.Entries.{pll_in, entries_of}
 use Rattle.rules.specs.Document01.Bank.{apply_all, reset_bank}
 use Rattle.rules.specs.Document01.Chip.{odd_at}
-use Rattle.rules.specs.Document01.Plan.{src_of, Asked, request_of, plan_of}
+use Rattle.types.specs.declared.Asked.{Asked}
+use Rattle.rules.specs.Document01.Plan.{src_of, request_of, plan_of}
 use Rattle.rules.specs.Words.{stored_from}
 use Rattle.rules.specs.Manual.Tree.{word}
 use Rattle.claims.proofs.Readings.Words.{bank_of}
@@ -57,18 +56,15 @@ few p = go p.three
     go false = omega arith
 
 -- ---- an idle PLL
-pub idle_words : (src : ℕ) → src < 4 → packed (fields_of src Idle) ≡ src ∷ 0 ∷ 0 ∷ []
+pub idle_words : (src : ℕ) → src < 4 → packed (fields_of src None) ≡ src ∷ 0 ∷ 0 ∷ []
 unfolding cfgr_of divr_of fracr_of
 idle_words src h = rw (mod-eq_of_lt h) (ap (λ (x : ℕ). x ∷ 0 ∷ 0 ∷ []) (let n : src * 1 + 0 + 0 + 0 + 0 + 0 + 0 + 0 ≡ src = omega arith in n))
 
-idle_of : (odd : Bool) (source : ℕ) (a : PllRequest) (x : Pll) → wanted a ≡ false → LegalPll odd source a x → x ≡ Idle
-idle_of odd source a Idle w l = refl
-idle_of odd source a (Runs s) w l = absurd (never (sym l.asked ∙ w))
+idle_of : (odd : Bool) (source : ℕ) (a : PllRequest) (x : Option PllSettings) → wanted a ≡ false → LegalPll odd source a x → x ≡ None
+idle_of odd source a None w l = refl
+idle_of odd source a (Some s) w l = absurd (never (sym l.asked ∙ w))
 
-module _ (bytes : List ℕ) (chip : Chip) (accepted : (plan_of bytes chip).answer ≡ Accepted) where
-  abbrev plan : Plan
-  plan = (plan_of bytes chip).plan
-
+module _ (bytes : List ℕ) (chip : Chip) (plan : Plan) (accepted : plan_of bytes chip ≡ Ok plan) where
   -- what is chosen for PLL k
   abbrev chosen : ℕ → PllFields
   chosen k = fields_of plan.selectors.src (pll_in plan k)
@@ -94,17 +90,17 @@ module _ (bytes : List ℕ) (chip : Chip) (accepted : (plan_of bytes chip).answe
 
     -- every field of a plan fits its bits: nothing is lost by a mask
     pub fields_fit : Fit (chosen k)
-    fields_fit = let x = asked bytes chip accepted in fit_of x.0 (known bytes chip x.0 x.1 accepted)
+    fields_fit = let x = asked bytes chip plan accepted in fit_of x.0 (known bytes chip x.0 x.1 plan accepted)
 
     -- each field in the words is the bank's word of that field after the whole list from reset values
     pub words_hold : Holds k (apply_all (entries_of (plan_of bytes chip)) reset_bank)
-    words_hold = let x = asked bytes chip accepted in hold_of x.0 (known bytes chip x.0 x.1 accepted)
+    words_hold = let x = asked bytes chip plan accepted in hold_of x.0 (known bytes chip x.0 x.1 plan accepted)
 
     -- where nine words are lent and a plan's are stored
     pub stored_hold : (b b₁ : List ℕ) → length b ≡ 9 → b₁ ≡ stored_from b 0 (plan_registers plan) → Hold (word b₁ (3 * k)) (word b₁ (3 * k + 1)) (word b₁ (3 * k + 2)) (λ f. word (apply_all (entries_of (plan_of bytes chip)) reset_bank) (of_pll k f))
     stored_hold b b₁ n e =
-        let x = asked bytes chip accepted in
-        let g = known bytes chip x.0 x.1 accepted in
+        let x = asked bytes chip plan accepted in
+        let g = known bytes chip x.0 x.1 plan accepted in
         let t = at plan k (g.below k h) (g.three k h) in
         let room : length (plan_registers plan) ≤ length b = rw n (few plan) in
         let w = plan_registers plan in
@@ -119,7 +115,7 @@ module _ (bytes : List ℕ) (chip : Chip) (accepted : (plan_of bytes chip).answe
         ) words_hold
 
     -- a PLL with no output requested has its source bits alone: 1 HSI, 3 HSE
-    pub idle_alone : (a : Asked) → request_of bytes chip ≡ ok a → wanted (asked_of a.request k) ≡ false → registers_at plan k ≡ src_of a.request.hse ∷ 0 ∷ 0 ∷ []
+    pub idle_alone : (a : Asked) → request_of bytes chip ≡ Ok a → wanted (asked_of a.request k) ≡ false → registers_at plan k ≡ src_of a.request.hse ∷ 0 ∷ 0 ∷ []
     idle_alone a is w =
-        let g = known bytes chip a is accepted in
+        let g = known bytes chip a is plan accepted in
         rw (idle_of (odd_at a.chip k) (source_of a.request) (asked_of a.request k) (pll_in plan k) w (g.legal k h), g.src) (idle_words (src_of a.request.hse) (src_fits a.request.hse))

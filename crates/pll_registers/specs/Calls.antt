@@ -1,14 +1,11 @@
 -- The registers of each PLL of a plan, and what the call leaves: document 02, Item 1. docs/CODES.md, PLL registers as words.
-use Rattle.std.specs.Prelude.{cond, List, [], ◌++◌, ℕ, eqb}
+use Rattle.std.specs.Prelude.{cond, List, [], ◌++◌, ℕ, eqb, Result, Ok, Err}
+use Rattle.types.specs.declared.Refusal.{Refusal}
 use Rattle.types.specs.declared.Chip.{Chip}
 use Rattle.types.specs.declared.Refusal.TheVariants.{OutsideCodes}
-use Rattle.types.specs.declared.Answer.{Answer}
-use Rattle.types.specs.declared.Answer.TheVariants.{Accepted, Refused}
 use Rattle.types.specs.declared.Plan.{Plan}
-use Rattle.types.specs.declared.Planned.{Planned}
-use Rattle.rules.specs.Document01.Result as Result
 use Rattle.rules.specs.Document01.Entries.{pll_in}
-use Rattle.rules.specs.Document01.Plan.{answered, plan_of}
+use Rattle.rules.specs.Document01.Plan.{plan_of}
 use Rattle.rules.specs.Words.{stored_from}
 use Rattle.pll_registers.specs.Fields.{fields_of}
 use Rattle.pll_registers.specs.Registers.{packed}
@@ -22,14 +19,10 @@ abbrev pub plan_registers : Plan → List ℕ
 plan_registers p = registers_at p 0 ++ (registers_at p 1 ++ cond p.three (registers_at p 2) [])
 
 -- the call: refusal 1 where another number of words than nine is lent, else as the planner's call
-unfoldable pub registers_asked : (request : List ℕ) → Chip → (words : ℕ) → Planned
-registers_asked request chip words = cond (eqb words 9) (plan_of request chip) (answered (Result.refused OutsideCodes))
+unfoldable pub registers_asked : (request : List ℕ) → Chip → (words : ℕ) → Result Plan Refusal
+registers_asked request chip words = cond (eqb words 9) (plan_of request chip) (Err OutsideCodes)
 
--- a plan's registers, from the first word on
-abbrev pub registers_in : Answer → Plan → List ℕ → List ℕ
-registers_in Accepted p words = stored_from words 0 (plan_registers p)
-registers_in (Refused n) p words = words
-
--- a refusal alone: no word is changed
-abbrev pub registers_by : Planned → List ℕ → List ℕ
-registers_by x words = registers_in x.answer x.plan words
+-- a plan's registers, from the first word on; a refusal alone: no word is changed
+abbrev pub registers_by : Result Plan Refusal → List ℕ → List ℕ
+registers_by (Ok p) words = stored_from words 0 (plan_registers p)
+registers_by (Err n) words = words

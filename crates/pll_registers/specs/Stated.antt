@@ -1,9 +1,8 @@
 -- Document 02, Item 1, as it is written: which bits of the three words are which field, by the first and the last, and what the fields may hold. Apart
 -- from Registers, which places them. A field's number is the bank's (Document01/Fields).
-use Rattle.std.specs.Prelude.{◌≡◌, List, ℕ, suc, ◌+◌, ◌-◌, ◌*◌, ◌/◌, ◌%◌, ◌^◌, ◌<◌}
+use Rattle.types.specs.declared.Refusal.{Refusal}
+use Rattle.std.specs.Prelude.{◌≡◌, List, ℕ, suc, ◌+◌, ◌-◌, ◌*◌, ◌/◌, ◌%◌, ◌^◌, ◌<◌, Result, IsOk}
 use Rattle.types.specs.declared.Chip.{Chip}
-use Rattle.types.specs.declared.Answer.{Answer}
-use Rattle.types.specs.declared.Answer.TheVariants.{Accepted}
 use Rattle.rules.specs.Document01.Fields
 use Rattle.rules.specs.Document01.Fields.{of_pll}
 use Rattle.rules.specs.Document01.Entries.{entries_of}
@@ -58,7 +57,7 @@ pub record Fit (f : PllFields) : Type 0 where
 
 -- a call that answers with a plan leaves in each PLL's three words, in PLL order, the fields that the bank has after the plan's whole list from reset
 -- values: jig and loader program the same PLLs
-abbrev pub AsBank : (request : List ℕ) → Chip → Answer → (words : List ℕ) → Type 0
+abbrev pub AsBank : (request : List ℕ) → Chip → Result (Unit {0}) Refusal → (words : List ℕ) → Type 0
 AsBank request chip answer words =
-    answer ≡ Accepted → (k : ℕ) → k < chip.plls
+    IsOk answer → (k : ℕ) → k < chip.plls
     → Hold (word words (3 * k)) (word words (3 * k + 1)) (word words (3 * k + 2)) (λ f. word (apply_all (entries_of (plan_of request chip)) reset_bank) (of_pll k f))

@@ -2,13 +2,14 @@
 #![tactic(auto)]
 
 ghost use Rattle.std.specs.Prelude.{◌≡◌, ◌<◌, length};
+ghost use Rattle.rules.specs.Document01.Result.{without_value};
 ghost use Rattle.rules.specs.Words.{stored_from};
 ghost use Rattle.pll_registers.specs.Fields.{fields_of};
 ghost use Rattle.pll_registers.specs.Registers.{packed};
 ghost use Rattle.pll_registers.specs.Calls.{plan_registers, registers_asked, registers_by};
 ghost use Rattle.pll_registers.specs.Stated.{AsBank};
 
-use types::{Answer, Chip, Plan, Pll, Refusal};
+use types::{Chip, Plan, PllSettings, Refusal};
 
 mod pack;
 
@@ -28,8 +29,8 @@ pub struct PllFields {
 }
 
 // The fields of one PLL of a plan, by its PLLSRC: all but the source are 0 of an idle one.
-pub fn fields(src: u32, x: Pll) -> PllFields
-    ensures { result ≡ fields_of src x }
+pub fn fields(src: u32, x: &Option<PllSettings>) -> PllFields
+    ensures { result ≡ fields_of src x.now }
 {
     let s = pll_words::setting_words(x);
     let o = pll_words::outputs_words(x);
@@ -48,9 +49,9 @@ pub fn fields(src: u32, x: Pll) -> PllFields
 }
 
 // CFGR, DIVR and FRACR of one PLL, from a place on.
-fn store_pll(src: u32, x: Pll, at: usize, out: &mut [u32])
+fn store_pll(src: u32, x: &Option<PllSettings>, at: usize, out: &mut [u32])
     requires { at < 9 }
-    ensures { out.new ≡ stored_from out.old at (packed (fields_of src x)) }
+    ensures { out.new ≡ stored_from out.old at (packed (fields_of src x.now)) }
 {
     let words = pack::pack(fields(src, x));
     fields::put(at, words[0], out);
@@ -59,21 +60,14 @@ fn store_pll(src: u32, x: Pll, at: usize, out: &mut [u32])
 }
 
 // Of each PLL of a plan, in PLL order: six words, or nine where there is a third PLL.
-pub fn store_registers(p: Plan, out: &mut [u32])
-    ensures { out.new ≡ stored_from out.old 0 (plan_registers p) }
+pub fn store_registers(p: &Plan, out: &mut [u32])
+    ensures { out.new ≡ stored_from out.old 0 (plan_registers p.now) }
 {
     let src = p.selectors.src;
-    let plls = p.plls;
-    let one = plls[0];
-    let two = plls[1];
-    let three = plls[2];
-    let x = one.pll;
-    let y = two.pll;
-    let z = three.pll;
-    store_pll(src, x, 0, out);
-    store_pll(src, y, 3, out);
+    store_pll(src, &p.plls[0], 0, out);
+    store_pll(src, &p.plls[1], 3, out);
     if p.three {
-        store_pll(src, z, 6, out);
+        store_pll(src, &p.plls[2], 6, out);
     }
 }
 
@@ -81,19 +75,16 @@ pub fn store_registers(p: Plan, out: &mut [u32])
 const WORDS: usize = 9;
 
 // The words of a request, beside a chip's numbers: nine words are lent, of which a chip with two PLLs keeps the last three. A refusal keeps all.
-pub fn plan_registers(request: &[u8], chip: Chip, words: &mut [u32]) -> Answer
-    ensures answer { result ≡ (registers_asked request.now chip (length words.old)).answer }
+#[tactic(auto, unfolding(crate::specs::Calls::registers_asked))]
+pub fn plan_registers(request: &[u8], chip: Chip, words: &mut [u32]) -> Result<(), Refusal>
+    ensures answer { result ≡ without_value (registers_asked request.now chip (length words.old)) }
     ensures words { words.new ≡ registers_by (registers_asked request.now chip (length words.old)) words.old }
     ensures bank { AsBank request.now chip result words.new }
 {
     if words.len() != WORDS {
-        return Answer::Refused(Refusal::OutsideCodes);
+        return Err(Refusal::OutsideCodes);
     }
-    let x = rcc::plan(request, chip);
-    let answer = x.answer;
-    let plan = x.plan;
-    if let Answer::Accepted = answer {
-        store_registers(plan, words);
-    }
-    answer
+    let plan = rcc::plan(request, chip)?;
+    store_registers(&plan, words);
+    Ok(())
 }

@@ -2,50 +2,27 @@
 #![tactic(auto)]
 
 ghost use Rattle.std.specs.Prelude.{◌≡◌};
-ghost use Rattle.pll_words.specs.PllWords.{fracen_of, fracn_of, setting_words, on_of, divider_of, hertz_of, outputs_words, pll_stored};
+ghost use Rattle.pll_words.specs.PllWords.{setting_words, on_of, divider_of, hertz_of, outputs_words, pll_stored};
 
-use types::{Fraction, Pll, PllOutput};
-
-fn fracen(f: Fraction) -> u32
-    ensures { result ≡ fracen_of f }
-{
-    match f {
-        Fraction::Whole => 0,
-        Fraction::Part(_) => 1,
-    }
-}
-
-fn fracn(f: Fraction) -> u32
-    ensures { result ≡ fracn_of f }
-{
-    match f {
-        Fraction::Whole => 0,
-        Fraction::Part(n) => n,
-    }
-}
+use types::{PllOutput, PllSettings};
 
 // What is chosen for the PLL.
-pub fn setting_words(x: Pll) -> [u32; 9]
-    ensures { result ≡ setting_words x }
+pub fn setting_words(x: &Option<PllSettings>) -> [u32; 9]
+    ensures { result ≡ setting_words x.now }
 {
     match x {
-        Pll::Idle => [0; 9],
-        Pll::Runs(s) => {
-            let f = s.fraction;
-            let en = fracen(f);
-            let n = fracn(f);
-            [
-                s.vcosel,
-                s.target,
-                s.m,
-                s.reference,
-                s.rge,
-                s.n,
-                en,
-                n,
-                s.vco,
-            ]
-        }
+        None => [0; 9],
+        Some(s) => [
+            s.vcosel,
+            s.target,
+            s.m,
+            s.reference,
+            s.rge,
+            s.n,
+            s.fraction.is_some() as u32,
+            s.fraction.unwrap_or(0),
+            s.vco,
+        ],
     }
 }
 
@@ -57,48 +34,45 @@ struct Words {
     hertz: u32,
 }
 
-fn output(o: PllOutput) -> Words
+fn output(o: Option<PllOutput>) -> Words
     ensures on { result.on ≡ on_of o }
     ensures divider { result.divider ≡ divider_of o }
     ensures hertz { result.hertz ≡ hertz_of o }
 {
     match o {
-        PllOutput::Off => Words {
+        None => Words {
             on: 0,
             divider: 0,
             hertz: 0,
         },
-        PllOutput::On(divider, hertz) => Words {
+        Some(x) => Words {
             on: 1,
-            divider,
-            hertz,
+            divider: x.divider,
+            hertz: x.clock,
         },
     }
 }
 
 // P, Q and R.
-pub fn outputs_words(x: Pll) -> [u32; 9]
-    ensures { result ≡ outputs_words x }
+pub fn outputs_words(x: &Option<PllSettings>) -> [u32; 9]
+    ensures { result ≡ outputs_words x.now }
 {
     match x {
-        Pll::Idle => [0; 9],
-        Pll::Runs(s) => {
-            let p = s.p;
-            let q = s.q;
-            let r = s.r;
-            let a = output(p);
-            let b = output(q);
-            let c = output(r);
+        None => [0; 9],
+        Some(s) => {
+            let p = output(s.p);
+            let q = output(s.q);
+            let r = output(s.r);
             [
-                a.on, a.divider, a.hertz, b.on, b.divider, b.hertz, c.on, c.divider, c.hertz,
+                p.on, p.divider, p.hertz, q.on, q.divider, q.hertz, r.on, r.divider, r.hertz,
             ]
         }
     }
 }
 
 // Eighteen words: the settings, then the outputs.
-pub fn store_pll(x: Pll, out: &mut [u32])
-    ensures { out.new ≡ pll_stored x out.old }
+pub fn store_pll(x: &Option<PllSettings>, out: &mut [u32])
+    ensures { out.new ≡ pll_stored x.now out.old }
 {
     words::store_words(out, 0, setting_words(x));
     words::store_words(out, 9, outputs_words(x))

@@ -1,28 +1,28 @@
 // The prescalers: rcc.rs, HPRE, PPRE and the timers; mco.rs, calculate_prescaler.
 #![tactic(auto)]
 
-ghost use Rattle.std.specs.Prelude.{◌≡◌, cond, leb, ◌≤◌};
-ghost use Rattle.rules.specs.Document01.Hertz.{ratio_of, hertz_or};
+ghost use Rattle.std.specs.Prelude.{◌≡◌, cond, leb, ◌≤◌, unwrap_or};
+ghost use Rattle.rules.specs.Document01.Hertz.{ratio_of};
 ghost use Rattle.rules.specs.Document01.Buses.{hpre_of, ppre_of, ahb_of, apb_of, timer_of};
 ghost use Rattle.rules.specs.Document01.Mco.{mco_of};
-ghost use Rattle.rules.specs.Answers.{bus_result, mco_result};
 
-use types::{Bus, BusAnswer, Hertz, Mco, McoAnswer, Refusal};
+use types::{Bus, Mco, Refusal};
 
-// clock / wanted, rounded up. What is left over is added as a number, since no branch can be foreseen on it.
+// clock / wanted, rounded up. The compiler makes no branch of it, which could not be foreseen.
+#[tactic(auto, using(crate::proofs::Up::up))]
 fn ratio(clock: u32, wanted: u32) -> u32
     requires { 1 ≤ wanted }
     ensures { result ≡ ratio_of clock wanted }
 {
-    let over = (clock % wanted != 0) as u32;
-    clock / wanted + over
+    clock.div_ceil(wanted)
 }
 
 // The ratio for a bus. A clock of 0 Hz has a ratio of 0.
-fn bus_ratio(clock: u32, requested: Hertz) -> u32
-    ensures { result ≡ ratio_of clock (hertz_or requested clock) }
+#[tactic(auto, unfolding(rules::specs::Document01::Hertz::ratio_of))]
+fn bus_ratio(clock: u32, requested: Option<u32>) -> u32
+    ensures { result ≡ ratio_of clock (unwrap_or requested clock) }
 {
-    let wanted = hertz::hertz_or(requested, clock);
+    let wanted = requested.unwrap_or(clock);
     if wanted == 0 {
         return 0;
     }
@@ -61,33 +61,36 @@ fn hpre_of(ratio: u32) -> u32
 }
 
 // AHB from the system clock, with refusals 18 and 19.
-pub fn ahb(system: u32, requested: Hertz) -> BusAnswer
-    ensures { bus_result result ≡ ahb_of system requested }
+#[tactic(auto, unfolding(rules::specs::Document01::Buses::ahb_of))]
+pub fn ahb(system: u32, requested: Option<u32>) -> Result<Bus, Refusal>
+    ensures { result ≡ ahb_of system requested }
 {
     if !hertz::not_zero(requested) {
-        return BusAnswer::Refused(Refusal::BusZero);
+        return Err(Refusal::BusZero);
     }
     let pre = hpre_of(bus_ratio(system, requested));
     let hclk = system / pre;
     if hclk == 0 {
-        return BusAnswer::Refused(Refusal::AhbZero);
+        return Err(Refusal::AhbZero);
     }
-    BusAnswer::Divided(Bus { pre, clock: hclk })
+    Ok(Bus { pre, clock: hclk })
 }
 
 // An APB from the AHB clock, with refusal 18.
-pub fn apb(hclk: u32, requested: Hertz) -> BusAnswer
-    ensures { bus_result result ≡ apb_of hclk requested }
+#[tactic(auto, unfolding(rules::specs::Document01::Buses::apb_of))]
+pub fn apb(hclk: u32, requested: Option<u32>) -> Result<Bus, Refusal>
+    ensures { result ≡ apb_of hclk requested }
 {
     if !hertz::not_zero(requested) {
-        return BusAnswer::Refused(Refusal::BusZero);
+        return Err(Refusal::BusZero);
     }
     let pre = ppre_of(bus_ratio(hclk, requested));
     let pclk = hclk / pre;
-    BusAnswer::Divided(Bus { pre, clock: pclk })
+    Ok(Bus { pre, clock: pclk })
 }
 
 // The clock of the timers on an APB, by the APB's divisor.
+#[tactic(auto, unfolding(rules::specs::Document01::Buses::timer_of))]
 pub fn timer(hclk: u32, ppre: u32) -> u32
     ensures { result ≡ timer_of hclk ppre }
 {
@@ -103,29 +106,29 @@ pub fn timer(hclk: u32, ppre: u32) -> u32
 const MCO_MOST: u32 = 15;
 
 // A clock output from the clock of its source, with refusals 22 and 23.
-pub fn mco(clock: u32, requested: Hertz) -> McoAnswer
-    ensures { mco_result result ≡ mco_of clock requested }
+#[tactic(auto, unfolding(rules::specs::Document01::Mco::mco_of))]
+pub fn mco(clock: u32, requested: Option<u32>) -> Result<Mco, Refusal>
+    ensures { result ≡ mco_of clock requested }
 {
     match requested {
-        Hertz::Unset => McoAnswer::Prescaled(Mco {
+        None => Ok(Mco {
             pre: 0,
-            clock: Hertz::Unset,
+            clock: None,
         }),
-        Hertz::Hz(h) => {
+        Some(h) => {
             if h == 0 {
-                return McoAnswer::Refused(Refusal::McoZero);
+                return Err(Refusal::McoZero);
             }
             let pre = ratio(clock, h);
             if pre < 1 {
-                return McoAnswer::Refused(Refusal::McoRatio);
+                return Err(Refusal::McoRatio);
             }
             if pre > MCO_MOST {
-                return McoAnswer::Refused(Refusal::McoRatio);
+                return Err(Refusal::McoRatio);
             }
-            let out = clock / pre;
-            McoAnswer::Prescaled(Mco {
+            Ok(Mco {
                 pre,
-                clock: Hertz::Hz(out),
+                clock: Some(clock / pre),
             })
         }
     }

@@ -1,15 +1,11 @@
 -- What the record shows and where a step leads it, by its target and its place; a step of the record is a step of document 01's voltage walk.
 use mathlib.Core.Path.{◌≡◌, refl, sym, ap, ◌∙◌}
 use mathlib.Core.Bool.{Bool, true, false, cond}
-use mathlib.Core.List.{List, []}
 use Prim.Native.Nat.{ℕ, ◌<◌, ◌≤◌}
 use lib.Dec.{eqb, ltb}
-use borrow.Author.Tests.{eqb-true, ne_eqb, lt-ltb, le-ltb, ltb-true, ltb-false}
-use Rattle.types.specs.declared.Entry.{Entry}
-use Rattle.types.specs.declared.Refusal.TheVariants.{OutsideCodes}
-use Rattle.types.specs.declared.Shown.TheVariants.{Finished, Stopped}
+use borrow.Author.Tests.{eqb-true, lt-ltb, le-ltb, ltb-true, ltb-false}
 use Rattle.laws.proofs.Tests.{by_test}
-use Rattle.rules.specs.Document01.Walk.{before, shown_of, vos_code, voltage_stepped}
+use Rattle.rules.specs.Document01.Walk.{before, vos_code, voltage_stepped}
 use Rattle.pwr.specs.declared.VoltageWalk.{VoltageWalk}
 use Rattle.pwr.specs.Walk.{entries_from, stand_of, place_after, stepped_walk}
 
@@ -48,24 +44,6 @@ module _ (target a b : ℕ) where
       (λ (n₃ : eqb at 3 ≡ false). finished at n₀ n₁ n₂ n₃))))
 
 -- ---- the record
-past : (target at : ℕ) → eqb at 0 ≡ false → eqb at 1 ≡ false → eqb at 2 ≡ false → eqb at 3 ≡ false → entries_from target at ≡ []
-unfolding entries_from
-past target at n₀ n₁ n₂ n₃ = rw (n₀, n₁, n₂, n₃)
-
--- what a walk shows
-module _ (w : VoltageWalk) where
-  pub refused_shown : 4 ≤ w.target → Stopped OutsideCodes ≡ shown_of (stand_of w)
-  unfolding stand_of
-  refused_shown h = rw (le-ltb w.target 4 h)
-
-  pub shown : {es : List Entry} → w.target < 4 → entries_from w.target w.at ≡ es → shown_of (before es) ≡ shown_of (stand_of w)
-  unfolding stand_of
-  shown h e = rw (lt-ltb w.target 4 h, e)
-
-  pub finished_shown : w.target < 4 → (w.at ≡ 0 → ⊥) → (w.at ≡ 1 → ⊥) → (w.at ≡ 2 → ⊥) → (w.at ≡ 3 → ⊥) → Finished ≡ shown_of (stand_of w)
-  finished_shown h n₀ n₁ n₂ n₃ =
-      shown h (past w.target w.at (ne_eqb w.at 0 n₀) (ne_eqb w.at 1 n₁) (ne_eqb w.at 2 n₂) (ne_eqb w.at 3 n₃))
-
 -- a step: a refused walk stays, another moves to its next place
 module _ (w : VoltageWalk) (a b : ℕ) where
   abbrev moved : VoltageWalk
@@ -102,3 +80,5 @@ target_kept w a b = go (ltb w.target 4)
     go : (t : Bool) → (cond t (record { target = w.target; at = place_after w.target w.at a }) w).target ≡ w.target
     go true = refl
     go false = refl
+
+pub ruleset steps = (refused_step, moved_step)

@@ -10,7 +10,7 @@ use fields::{ACTVOS, ACTVOSRDY, VOS, VOSRDY};
 use types::{Entry, Refusal, Shown};
 
 // The target's scale, and the place: 0 before the wait for ACTVOSRDY, 1 before the read of ACTVOS, 2 before VOS is set, 3 before the wait for
-// VOSRDY, 4 and above finished.
+// VOSRDY, 4 and above finished. Numbers and no enums, as a caller may hand in any.
 #[derive(Clone, Copy)]
 pub struct VoltageWalk {
     pub target: u32,
@@ -18,6 +18,7 @@ pub struct VoltageWalk {
 }
 
 // A walk that has not been stepped.
+#[tactic(auto, unfolding(crate::specs::Walk::entries_from, crate::specs::Walk::stand_of))]
 pub fn fresh(target: u32) -> VoltageWalk
     ensures walk { result ≡ fresh_walk target }
     ensures rules { stand_of result ≡ voltage_to target }
@@ -26,6 +27,7 @@ pub fn fresh(target: u32) -> VoltageWalk
 }
 
 // What the walk shows: the next entry, finished, or the refusal.
+#[tactic(auto, unfolding(crate::specs::Walk::entries_from, crate::specs::Walk::stand_of))]
 pub fn shows(w: VoltageWalk) -> Shown
     ensures { result ≡ shown_of (stand_of w) }
 {
@@ -33,27 +35,17 @@ pub fn shows(w: VoltageWalk) -> Shown
     if target > 3 {
         return Shown::Stopped(Refusal::OutsideCodes);
     }
-    let at = w.at;
-    match at {
-        0 => {
-            return Shown::Next(Entry::Wait(ACTVOSRDY, 1));
-        }
-        1 => {
-            return Shown::Next(Entry::Read(ACTVOS));
-        }
-        2 => {
-            return Shown::Next(Entry::Set(VOS, 3 - target));
-        }
-        3 => {
-            return Shown::Next(Entry::Wait(VOSRDY, 1));
-        }
-        _ => {
-            return Shown::Finished;
-        }
+    match w.at {
+        0 => Shown::Next(Entry::Wait(ACTVOSRDY, 1)),
+        1 => Shown::Next(Entry::Read(ACTVOS)),
+        2 => Shown::Next(Entry::Set(VOS, 3 - target)),
+        3 => Shown::Next(Entry::Wait(VOSRDY, 1)),
+        _ => Shown::Finished,
     }
 }
 
 // The place after a step that reads a.
+#[tactic(auto, unfolding(crate::specs::Walk::place_after))]
 fn place_after(target: u32, at: u32, a: u32) -> u32
     requires { target < 4 }
     ensures { result ≡ place_after target at a }
@@ -68,6 +60,7 @@ fn place_after(target: u32, at: u32, a: u32) -> u32
 }
 
 // The walk after the values read at the entry that it shows.
+#[tactic(auto, using(crate::proofs::Laws::steps))]
 pub fn stepped(w: VoltageWalk, a: u32, b: u32) -> VoltageWalk
     ensures walk { result ≡ stepped_walk w a b }
     ensures rules { stand_of result ≡ voltage_stepped w.target (stand_of w) a b }
@@ -82,7 +75,7 @@ pub fn stepped(w: VoltageWalk, a: u32, b: u32) -> VoltageWalk
     w
 }
 
-// The same in place, with what the walk then shows.
+// The same in place, with what the walk then shows. walk::step has these lines for its own record: a trait for both would be longer.
 pub fn step(w: &mut VoltageWalk, a: u32, b: u32) -> Shown
     ensures walk { w.new ≡ stepped_walk w.old a b }
     ensures rules { stand_of w.new ≡ voltage_stepped w.old.target (stand_of w.old) a b }

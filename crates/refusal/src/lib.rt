@@ -1,11 +1,10 @@
 // The number of each refusal, as document 01 has it, and of an answer.
 #![tactic(auto)]
 
-ghost use Rattle.std.specs.Prelude.{◌≡◌};
+ghost use Rattle.std.specs.Prelude.{◌≡◌, Some};
 ghost use Rattle.rules.specs.Document01.Refusals.{number_of, refusal_of, code_of};
-ghost use Rattle.refusal.specs.Listed.{Is};
 
-use types::{Answer, Refusal};
+use types::Refusal;
 
 pub fn number_of(n: Refusal) -> u32
     ensures { result ≡ number_of n }
@@ -13,9 +12,9 @@ pub fn number_of(n: Refusal) -> u32
     listed_number(n)
 }
 
-// The number under which the list has the refusal.
+// The number under which the list has the refusal: written out, and not by its place among the variants, as the list is by numbers.
 fn listed_number(n: Refusal) -> u32
-    ensures { Is (refusal_of result) n }
+    ensures { refusal_of result ≡ Some n }
 {
     match n {
         Refusal::OutsideCodes => 1,
@@ -45,12 +44,12 @@ fn listed_number(n: Refusal) -> u32
     }
 }
 
-// 0 for a plan, or the refusal's number.
-pub fn code_of(answer: Answer) -> u32
-    ensures { result ≡ code_of answer }
+// 0 for what is answered, or the refusal's number.
+pub fn code_of<T>(answer: &Result<T, Refusal>) -> u32
+    ensures { result ≡ code_of answer.now }
 {
     match answer {
-        Answer::Accepted => 0,
-        Answer::Refused(n) => number_of(n),
+        Ok(_) => 0,
+        Err(n) => number_of(*n),
     }
 }

@@ -1,9 +1,9 @@
 -- The parts of a report, of which report_words is made: docs/CODES.md, The C functions.
-use Rattle.std.specs.Prelude.{List, [], ◌∷◌, ℕ}
+use Rattle.std.specs.Prelude.{List, [], ◌∷◌, ℕ, Option}
+use Rattle.types.specs.declared.PllSettings.{PllSettings}
 use Rattle.types.specs.declared.Clocks.{Clocks}
 use Rattle.types.specs.declared.Buses.{Buses}
 use Rattle.types.specs.declared.Mcos.{Mcos}
-use Rattle.types.specs.declared.PllPlan.{PllPlan}
 use Rattle.rules.specs.Document01.OnePll.{pll_from}
 use Rattle.rules.specs.Words.{hertz_words, pll_words}
 
@@ -17,5 +17,5 @@ abbrev pub given_words : Clocks → Mcos → List ℕ
 given_words c m = hertz_words c.hse (hertz_words c.lse (hertz_words c.audio (hertz_words m.mco1.clock (hertz_words m.mco2.clock []))))
 
 -- P, Q and R of each PLL
-abbrev pub output_words : List PllPlan → List ℕ
+abbrev pub output_words : List (Option PllSettings) → List ℕ
 output_words l = pll_words (pll_from l 0) (pll_words (pll_from l 1) (pll_words (pll_from l 2) []))

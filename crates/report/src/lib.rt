@@ -2,22 +2,12 @@
 #![tactic(auto)]
 
 ghost use Rattle.std.specs.Prelude.{◌≡◌, ◌<◌, [], ◌∷◌};
-ghost use Rattle.rules.specs.Document01.OnePll.{clock_of};
 ghost use Rattle.rules.specs.Words.{stored_from, hertz_words, pll_words, report_words};
 ghost use Rattle.report.specs.Report.{always_words, given_words, output_words};
 
 use fields::put;
-use types::{Buses, Clocks, Hertz, Mcos, Plan, Pll, PllOutput, PllPlan};
-
-// An output of a PLL, where it is on.
-fn hertz_of(o: PllOutput) -> Hertz
-    ensures { result ≡ clock_of o }
-{
-    match o {
-        PllOutput::Off => Hertz::Unset,
-        PllOutput::On(_, h) => Hertz::Hz(h),
-    }
-}
+use hertz::clock_of;
+use types::{Buses, Clocks, Mcos, Plan, PllSettings};
 
 // Two words one after the other.
 fn put2(out: &mut [u32], at: usize, v: u32, w: u32)
@@ -29,15 +19,15 @@ fn put2(out: &mut [u32], at: usize, v: u32, w: u32)
 }
 
 // A clock: whether it is there, and its hertz. Both are told without a branch, as a request's clocks are there or not in no order.
-fn put_clock(out: &mut [u32], at: usize, h: Hertz)
+fn put_clock(out: &mut [u32], at: usize, h: Option<u32>)
     requires { at < 55 }
     ensures { out.new ≡ stored_from out.old at (hertz_words h []) }
 {
-    put2(out, at, hertz::set_of(h), hertz::hertz_or(h, 0))
+    put2(out, at, h.is_some() as u32, h.unwrap_or(0))
 }
 
 // Three clocks one after the other.
-fn put_three(out: &mut [u32], at: usize, p: Hertz, q: Hertz, r: Hertz)
+fn put_three(out: &mut [u32], at: usize, p: Option<u32>, q: Option<u32>, r: Option<u32>)
     requires { at < 50 }
     ensures { out.new ≡ stored_from out.old at (hertz_words p (hertz_words q (hertz_words r []))) }
 {
@@ -47,19 +37,13 @@ fn put_three(out: &mut [u32], at: usize, p: Hertz, q: Hertz, r: Hertz)
 }
 
 // P, Q and R of a PLL.
-fn put_pll(out: &mut [u32], at: usize, x: Pll)
+fn put_pll(out: &mut [u32], at: usize, x: &Option<PllSettings>)
     requires { at < 50 }
-    ensures { out.new ≡ stored_from out.old at (pll_words x []) }
+    ensures { out.new ≡ stored_from out.old at (pll_words x.now []) }
 {
-    let none = Hertz::Unset;
     match x {
-        Pll::Idle => put_three(out, at, none, none, none),
-        Pll::Runs(s) => {
-            let p = s.p;
-            let q = s.q;
-            let r = s.r;
-            put_three(out, at, hertz_of(p), hertz_of(q), hertz_of(r))
-        }
+        None => put_three(out, at, None, None, None),
+        Some(s) => put_three(out, at, clock_of(s.p), clock_of(s.q), clock_of(s.r)),
     }
 }
 
@@ -75,8 +59,8 @@ fn put_four(out: &mut [u32], at: usize, a: u32, b: u32, c: u32, d: u32)
 }
 
 // The system clock, the buses, the timers, the peripheral clock and the chip's oscillators.
-fn put_always(out: &mut [u32], c: Clocks, b: Buses)
-    ensures { out.new ≡ stored_from out.old 0 (always_words c b) }
+fn put_always(out: &mut [u32], c: &Clocks, b: &Buses)
+    ensures { out.new ≡ stored_from out.old 0 (always_words c.now b.now) }
 {
     put_four(out, 0, c.sys, b.ahb.clock, b.apb1.clock, b.apb2.clock);
     put_four(out, 8, b.apb3.clock, c.timx, c.timy, c.per);
@@ -84,47 +68,30 @@ fn put_always(out: &mut [u32], c: Clocks, b: Buses)
 }
 
 // The crystals and the clock outputs.
-fn put_given(out: &mut [u32], c: Clocks, m: Mcos)
-    ensures { out.new ≡ stored_from out.old 24 (given_words c m) }
+fn put_given(out: &mut [u32], c: &Clocks, m: &Mcos)
+    ensures { out.new ≡ stored_from out.old 24 (given_words c.now m.now) }
 {
-    let hse = c.hse;
-    let lse = c.lse;
-    let audio = c.audio;
-    let one = m.mco1;
-    let two = m.mco2;
-    let mco1 = one.clock;
-    let mco2 = two.clock;
-    put_three(out, 24, hse, lse, audio);
-    put_clock(out, 30, mco1);
-    put_clock(out, 32, mco2)
+    put_three(out, 24, c.hse, c.lse, c.audio);
+    put_clock(out, 30, m.mco1.clock);
+    put_clock(out, 32, m.mco2.clock)
 }
 
-// P, Q and R of each PLL.
-fn put_outputs(out: &mut [u32], plls: [PllPlan; 3])
-    ensures { out.new ≡ stored_from out.old 34 (output_words plls) }
+// P, Q and R of each PLL. Three calls and no loop: what is left of the words would have to be an invariant.
+fn put_outputs(out: &mut [u32], plls: &[Option<PllSettings>; 3])
+    ensures { out.new ≡ stored_from out.old 34 (output_words plls.now) }
 {
-    let a = plls[0];
-    let b = plls[1];
-    let c = plls[2];
-    let x = a.pll;
-    let y = b.pll;
-    let z = c.pll;
-    put_pll(out, 34, x);
-    put_pll(out, 40, y);
-    put_pll(out, 46, z)
+    put_pll(out, 34, &plls[0]);
+    put_pll(out, 40, &plls[1]);
+    put_pll(out, 46, &plls[2])
 }
 
 // The whole report: the clocks, then PPRE1 to 3.
-pub fn store_report(plan: Plan, out: &mut [u32])
-    ensures { out.new ≡ stored_from out.old 0 (report_words plan) }
+pub fn store_report(plan: &Plan, out: &mut [u32])
+    ensures { out.new ≡ stored_from out.old 0 (report_words plan.now) }
 {
-    let clocks = plan.clocks;
-    let buses = plan.buses;
-    let mcos = plan.mcos;
-    let plls = plan.plls;
-    put_always(out, clocks, buses);
-    put_given(out, clocks, mcos);
-    put_outputs(out, plls);
-    put2(out, 52, buses.apb1.pre, buses.apb2.pre);
-    put(54, buses.apb3.pre, out)
+    put_always(out, &plan.clocks, &plan.buses);
+    put_given(out, &plan.clocks, &plan.mcos);
+    put_outputs(out, &plan.plls);
+    put2(out, 52, plan.buses.apb1.pre, plan.buses.apb2.pre);
+    put(54, plan.buses.apb3.pre, out)
 }

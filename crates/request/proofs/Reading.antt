@@ -1,4 +1,5 @@
 -- The byte form by places is what the readers of document 01 read from the front, part by part.
+use Rattle.std.specs.Prelude.{Some, None, Result, Ok, Err}
 use mathlib.Core.Path.{◌≡◌, refl, sym, ap, ◌∙◌}
 use mathlib.Core.Bool.{Bool, true, false, cond, ◌&&◌, ◌||◌}
 use mathlib.Core.List.{List, [], ◌∷◌}
@@ -9,8 +10,8 @@ use lib.Dec.{eqb, ltb}
 use lib.ListN.{length, get_or, drop, drop_of_length-le}
 use lib.Seq.{drop-cons}
 use borrow.Author.Tests.{ltb-true, eq-eqb, ne_eqb}
+use Rattle.types.specs.declared.Refusal.{Refusal}
 use Rattle.laws.proofs.Tests.{by_test}
-use Rattle.types.specs.declared.Hertz.TheVariants.{Unset, Hz}
 use Rattle.types.specs.declared.Refusal.TheVariants.{OutsideCodes}
 use Rattle.types.specs.declared.Chip.{Chip}
 use Rattle.types.specs.declared.ChipState.{ChipState}
@@ -20,20 +21,18 @@ use Rattle.types.specs.declared.Mco2Source.{Mco2Source}
 use Rattle.types.specs.declared.PllRequest.{PllRequest}
 use Rattle.rules.specs.Document01.Chip.{chip_of}
 use Rattle.rules.specs.Document01.Result as Result
-use Rattle.rules.specs.Document01.Result.{Result, refused, ok}
 use Rattle.rules.specs.Document01.Bytes.{Read, Reader, ◌>>=◌, return, mco1_sources, mco2_sources, byte, end, code, u32le, set_to, hertz, flag, mco1_source, mco2_source, strategy, pll_part, third_part, request_part, size_of, AllBytes}
-use Rattle.rules.specs.Document01.Plan.{Asked, request_of}
+use Rattle.types.specs.declared.Asked.{Asked}
+use Rattle.rules.specs.Document01.Plan.{request_of}
 use Rattle.rules.proofs.Document01.Results.{ok_same}
 use Rattle.rules.proofs.Document01.BytesWhole.{at_least, accepted_length, asked_by}
 use Rattle.request.specs.Parts.{code_ok, u32le_at, hertz_ok, hertz_at, flag_at, mco1_at, mco2_at, strategy_at, pll_ok, part_at, third_ok, third_at, plls_ok, formed, decoded}
-use Rattle.request.specs.Chips.{chip_ok}
-use Rattle.claims.specs.Demands.ByPlaces.{state_of}
-use Rattle.request.specs.Request.{request_read, blank_read, part_of, part_read, nothing_read}
-use Rattle.request.proofs.Chips.{chip_is}
+use Rattle.request.specs.Request.{part_of}
+use Rattle.rules.proofs.Document01.RefusalsOfCalls.{outside_codes}
 
 -- refusal 1, unless a test holds
-abbrev only : {A : Type 0} → Bool → A → Result A
-only b x = cond b (ok x) (refused OutsideCodes)
+abbrev only : {A : Type 0} → Bool → A → Result A Refusal
+only b x = cond b (Ok x) (Err OutsideCodes)
 
 -- a reader takes n bytes at any place where there are as many: the value there, if they are well-formed
 record Part {A : Type 0} (r : Reader A) (n : ℕ) (good : List ℕ → ℕ → Bool) (val : List ℕ → ℕ → A) : Type 0 where
@@ -42,7 +41,7 @@ record Part {A : Type 0} (r : Reader A) (n : ℕ) (good : List ℕ → ℕ → B
 -- one part, then the next
 stage :
     {A B : Type 0} {r : Reader A} {n : ℕ} {good : List ℕ → ℕ → Bool} {val : List ℕ → ℕ → A} → Part r n good val →
-    (k : Read A → Result B) (l : List ℕ) (i : ℕ) (b : Bool) (y : B) → i + n ≤ length l →
+    (k : Read A → Result B Refusal) (l : List ℕ) (i : ℕ) (b : Bool) (y : B) → i + n ≤ length l →
     (good l i ≡ true → k (record { value = val l i; rest = drop (i + n) l }) ≡ only b y) → Result.◌>>=◌ (r (drop i l)) k ≡ only (good l i && b) y
 stage {good = good} p k l i b y h f =
     by_test (good l i) (λ (t : good l i ≡ true). rw (p.reads l i h, t) (f t)) (λ (t : good l i ≡ false). rw (p.reads l i h, t))
@@ -50,8 +49,8 @@ stage {good = good} p k l i b y h f =
 -- the last part
 last :
     {A B : Type 0} {r : Reader A} {n : ℕ} {good : List ℕ → ℕ → Bool} {val : List ℕ → ℕ → A} → Part r n good val →
-    (k : Read A → Result B) (l : List ℕ) (i : ℕ) (y : B) → i + n ≤ length l →
-    (good l i ≡ true → k (record { value = val l i; rest = drop (i + n) l }) ≡ ok y) → Result.◌>>=◌ (r (drop i l)) k ≡ only (good l i) y
+    (k : Read A → Result B Refusal) (l : List ℕ) (i : ℕ) (y : B) → i + n ≤ length l →
+    (good l i ≡ true → k (record { value = val l i; rest = drop (i + n) l }) ≡ Ok y) → Result.◌>>=◌ (r (drop i l)) k ≡ only (good l i) y
 last {good = good} p k l i y h f =
     by_test (good l i) (λ (t : good l i ≡ true). rw (p.reads l i h, t) (f t)) (λ (t : good l i ≡ false). rw (p.reads l i h, t))
 
@@ -74,7 +73,7 @@ u32le_part = record {
       rw (drop-cons l i 0 (omega arith), e1, drop-cons l (i + 1) 0 (omega arith), e2, drop-cons l (i + 2) 0 (omega arith), e3, drop-cons l (i + 3) 0 (omega arith), e4);
 }
 
-set_to_is : (s w : ℕ) (rest : List ℕ) → s < 2 → set_to s w rest ≡ only (eqb s 1 || eqb w 0) (record { value = cond (eqb s 0) Unset (Hz w); rest = rest })
+set_to_is : (s w : ℕ) (rest : List ℕ) → s < 2 → set_to s w rest ≡ only (eqb s 1 || eqb w 0) (record { value = cond (eqb s 0) None (Some w); rest = rest })
 set_to_is zero w rest h = by_test (eqb w 0) (λ (t : eqb w 0 ≡ true). rw t) (λ (t : eqb w 0 ≡ false). rw t)
 set_to_is (suc zero) w rest h = refl
 set_to_is (suc (suc s)) w rest h = absurd (omega arith)
@@ -128,8 +127,8 @@ pll_part_is = record {
 
 -- the PLL3 part, and the end
 third_part_is :
-    {B : Type 0} (three : Bool) (l : List ℕ) (k : Read PllRequest → Result B) (y : B) → length l ≡ size_of three →
-    ((rest : List ℕ) → rest ≡ [] → k (record { value = third_at three l; rest = rest }) ≡ ok y) → Result.◌>>=◌ (third_part three (drop 90 l)) k ≡ only (third_ok three l) y
+    {B : Type 0} (three : Bool) (l : List ℕ) (k : Read PllRequest → Result B Refusal) (y : B) → length l ≡ size_of three →
+    ((rest : List ℕ) → rest ≡ [] → k (record { value = third_at three l; rest = rest }) ≡ Ok y) → Result.◌>>=◌ (third_part three (drop 90 l)) k ≡ only (third_ok three l) y
 third_part_is true l k y h f = last pll_part_is k l 90 y (omega arith) λ t. f (drop 106 l) (drop_of_length-le l {i = 106} (omega arith))
 third_part_is false l k y h f = f (drop 90 l) (drop_of_length-le l {i = 90} (omega arith))
 
@@ -179,35 +178,27 @@ pub all_bytes : (l : List ℕ) → ((i : ℕ) → get_or l i 0 < 256) → AllByt
 all_bytes [] f = tt
 all_bytes (b ∷ l) f = (f 0, all_bytes l (λ i. f (suc i)))
 
-module _ (l : List ℕ) (chip : Chip) where
-  pub bad_chip : chip_ok chip ≡ false → request_read (request_of l chip) ≡ blank_read
-  unfolding request_of
-  bad_chip t = rw (chip_is chip, t)
+module _ (l : List ℕ) (chip : Chip) (state : ChipState) (known : chip_of chip ≡ Ok state) where
+  pub bad_size : AllBytes l → (length l ≡ size_of state.three → ⊥) → Err OutsideCodes ≡ request_of l chip
+  bad_size h n = go (request_of l chip) refl where
+    go : (r : Result Asked Refusal) → request_of l chip ≡ r → Err OutsideCodes ≡ r
+    go (Err x) e = ap Err (sym (outside_codes l chip x e))
+    go (Ok a) e =
+        let same : state.three ≡ a.chip.three = ap (λ (s : ChipState). s.three) (ok_same (sym known ∙ (asked_by l chip a h e).allowed)) in
+        absurd (n (rw same (accepted_length l chip a h e)))
 
-  module _ (good : chip_ok chip ≡ true) where
-    known : chip_of chip ≡ ok (state_of chip)
-    known = rw (chip_is chip, good)
+  module _ (size : length l ≡ size_of state.three) where
+    pub bad_form : formed state.three l ≡ false → Err OutsideCodes ≡ request_of l chip
+    unfolding request_of
+    bad_form t = rw (known, request_is state.three l size, t)
 
-    pub bad_size : AllBytes l → (length l ≡ size_of (state_of chip).three → ⊥) → request_read (request_of l chip) ≡ blank_read
-    bad_size h n = go (request_of l chip) refl where
-      go : (r : Result Asked) → request_of l chip ≡ r → request_read r ≡ blank_read
-      go (refused x) e = refl
-      go (ok a) e =
-          let same : (state_of chip).three ≡ a.chip.three = ap (λ (s : ChipState). s.three) (ok_same (sym known ∙ (asked_by l chip a h e).allowed)) in
-          absurd (n (rw same (accepted_length l chip a h e)))
-
-    module _ (size : length l ≡ size_of (state_of chip).three) where
-      pub bad_form : formed (state_of chip).three l ≡ false → request_read (request_of l chip) ≡ blank_read
-      unfolding request_of
-      bad_form t = rw (known, request_is (state_of chip).three l size, t)
-
-      pub taken : formed (state_of chip).three l ≡ true → request_read (request_of l chip) ≡ record { read = true; request = decoded (state_of chip).three l; chip = state_of chip }
-      unfolding request_of
-      taken t = rw (known, request_is (state_of chip).three l size, t)
+    pub taken : formed state.three l ≡ true → ◌≡◌ {A = Result Asked Refusal} (Ok (record { request = decoded state.three l; chip = state })) (request_of l chip)
+    unfolding request_of
+    taken t = rw (known, request_is state.three l size, t)
 
 -- ---- one PLL's part by itself
 module _ (l : List ℕ) where
-  pub bad_part_size : (length l ≡ 16 → ⊥) → part_read (part_of l) ≡ nothing_read
+  pub bad_part_size : (length l ≡ 16 → ⊥) → Err OutsideCodes ≡ part_of l
   unfolding part_of
   bad_part_size n = rw (ne_eqb (length l) 16 n)
 
@@ -215,10 +206,15 @@ module _ (l : List ℕ) where
     part_is : pll_part l ≡ only (pll_ok l 0) (record { value = part_at l 0; rest = drop 16 l })
     part_is = pll_part_is.reads l 0 (omega arith)
 
-    pub bad_part : pll_ok l 0 ≡ false → part_read (part_of l) ≡ nothing_read
+    pub bad_part : pll_ok l 0 ≡ false → Err OutsideCodes ≡ part_of l
     unfolding part_of
     bad_part t = rw (eq-eqb (length l) 16 size, part_is, t)
 
-    pub part_taken : pll_ok l 0 ≡ true → part_read (part_of l) ≡ record { read = true; part = part_at l 0 }
+    pub part_taken : pll_ok l 0 ≡ true → ◌≡◌ {A = Result PllRequest Refusal} (Ok (part_at l 0)) (part_of l)
     unfolding part_of
     part_taken t = rw (eq-eqb (length l) 16 size, part_is, t)
+
+-- what a request, and a part by itself, are read by
+pub ruleset reads = (all_bytes, bad_size, bad_form, taken)
+
+pub ruleset part_reads = (bad_part_size, bad_part, part_taken)

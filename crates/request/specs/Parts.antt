@@ -1,8 +1,6 @@
 -- The byte form by places: document 01, One call, from the top, second paragraph. Which bytes are well-formed, and what they stand for. That
 -- this is what the readers of crates/rules read from the front is proved in proofs/Reading.antt.
-use Rattle.std.specs.Prelude.{◌≡◌, Bool, true, false, cond, ◌&&◌, ◌||◌, List, [], ◌∷◌, ℕ, ◌+◌, ◌*◌, eqb, ltb, get_or}
-use Rattle.types.specs.declared.Hertz.{Hertz}
-use Rattle.types.specs.declared.Hertz.TheVariants.{Unset, Hz}
+use Rattle.std.specs.Prelude.{◌≡◌, Bool, true, false, cond, ◌&&◌, ◌||◌, List, [], ◌∷◌, ℕ, ◌+◌, ◌*◌, eqb, ltb, get_or, Option, Some, None}
 use Rattle.types.specs.declared.Strategy.{Strategy}
 use Rattle.types.specs.declared.Strategy.TheVariants.{Integer, Fractional}
 use Rattle.types.specs.declared.Mco1Source.{Mco1Source}
@@ -32,8 +30,8 @@ unfoldable pub hertz_ok : List ℕ → ℕ → Bool
 hertz_ok l i = hertz_is (get_or l i 0) (u32le_at l (i + 1))
 
 -- a hertz
-unfoldable pub hertz_at : List ℕ → ℕ → Hertz
-hertz_at l i = cond (eqb (get_or l i 0) 0) Unset (Hz (u32le_at l (i + 1)))
+unfoldable pub hertz_at : List ℕ → ℕ → Option ℕ
+hertz_at l i = cond (eqb (get_or l i 0) 0) None (Some (u32le_at l (i + 1)))
 
 -- three hertz in a row
 abbrev pub three_ok : List ℕ → ℕ → Bool

@@ -26,6 +26,7 @@ fn set_or_zero(set: u8, number: u32) -> u32
 }
 
 // A hertz: 0 and four zeros, or 1 and any four bytes.
+#[tactic(auto, unfolding(crate::specs::Parts::hertz_ok))]
 fn hertz(b: &[u8], at: usize) -> u32
     requires { at + 5 ≤ length b.now }
     ensures { Finds result (hertz_ok b.now at) }
@@ -35,6 +36,7 @@ fn hertz(b: &[u8], at: usize) -> u32
 }
 
 // Three hertz in a row.
+#[tactic(auto, using(crate::proofs::Wrong::both))]
 fn three(b: &[u8], at: usize) -> u32
     requires { at + 15 ≤ length b.now }
     ensures { Finds result (three_ok b.now at) }
@@ -43,6 +45,7 @@ fn three(b: &[u8], at: usize) -> u32
 }
 
 // A PLL's part.
+#[tactic(auto, using(crate::proofs::Wrong::both))]
 fn pll(b: &[u8], at: usize) -> u32
     requires { at + 16 ≤ length b.now }
     ensures { Finds result (pll_ok b.now at) }

@@ -1,53 +1,22 @@
 // The chip's numbers: judged, and taken.
-ghost use Rattle.std.specs.Prelude.{◌≡◌, ◌||◌, eqb};
-ghost use Rattle.rules.specs.Document01.Chip.{is_hsidiv, hsidiv_of, scale_of};
-ghost use Rattle.request.specs.Chips.{chip_ok, odds_ok};
-ghost use Rattle.claims.specs.Demands.ByPlaces.{state_of};
+ghost use Rattle.std.specs.Prelude.{◌≡◌};
+ghost use Rattle.rules.specs.Document01.Chip.{chip_of, hsidiv_of, scale_of};
+ghost use Rattle.request.specs.Chips.{chip_ok};
 
-use types::{Chip, ChipState, Hsidiv, Scale};
-
-fn two_or_three(n: u32) -> bool
-    ensures { result ≡ (eqb n 2 || eqb n 3) }
-{
-    if n == 2 {
-        return true;
-    }
-    n == 3
-}
-
-// 1, 2, 4, 8.
-fn is_hsidiv(n: u32) -> bool
-    ensures { result ≡ is_hsidiv n }
-{
-    if n == 1 {
-        return true;
-    }
-    if n == 2 {
-        return true;
-    }
-    if n == 4 {
-        return true;
-    }
-    n == 8
-}
-
-fn odds_ok(chip: Chip) -> bool
-    ensures { result ≡ odds_ok chip }
-{
-    let odd = chip.odd;
-    (odd[0] < 2) & ((odd[1] < 2) & (odd[2] < 2))
-}
+use types::{Chip, ChipState, Hsidiv, Refusal, Scale};
 
 // Whether each number is one of its codes.
-pub fn chip_ok(chip: Chip) -> bool
+#[tactic(auto, unfolding(crate::specs::Chips::chip_ok))]
+fn chip_ok(chip: Chip) -> bool
     ensures { result ≡ chip_ok chip }
 {
-    let count = two_or_three(chip.plls);
-    let odds = odds_ok(chip);
-    let divisor = is_hsidiv(chip.hsidiv);
-    count & (odds & ((chip.scale < 4) & ((chip.hsion < 2) & divisor)))
+    let odd = chip.odd;
+    let odds = (odd[0] < 2) & ((odd[1] < 2) & (odd[2] < 2));
+    let divisor = matches!(chip.hsidiv, 1 | 2 | 4 | 8);
+    matches!(chip.plls, 2 | 3) & (odds & ((chip.scale < 4) & ((chip.hsion < 2) & divisor)))
 }
 
+// The codes have been judged: with a TryFrom, here and in parts, each would be judged again.
 fn scale_of(n: u32) -> Scale
     ensures { result ≡ scale_of n }
 {
@@ -62,30 +31,28 @@ fn scale_of(n: u32) -> Scale
 fn hsidiv_of(n: u32) -> Hsidiv
     ensures { result ≡ hsidiv_of n }
 {
-    if n == 1 {
-        return Hsidiv::Div1;
+    match n {
+        1 => Hsidiv::Div1,
+        2 => Hsidiv::Div2,
+        4 => Hsidiv::Div4,
+        _ => Hsidiv::Div8,
     }
-    if n == 2 {
-        return Hsidiv::Div2;
-    }
-    if n == 4 {
-        return Hsidiv::Div4;
-    }
-    Hsidiv::Div8
 }
 
-// The state that the numbers stand for.
-pub fn state_of(chip: Chip) -> ChipState
-    ensures { result ≡ state_of chip }
+// The state that the numbers stand for, or refusal 1.
+#[tactic(auto, using(crate::proofs::Chips::chip_is))]
+pub fn chip_of(chip: Chip) -> Result<ChipState, Refusal>
+    ensures { result ≡ chip_of chip }
 {
+    if !chip_ok(chip) {
+        return Err(Refusal::OutsideCodes);
+    }
     let odd = chip.odd;
-    let scale = scale_of(chip.scale);
-    let hsidiv = hsidiv_of(chip.hsidiv);
-    ChipState {
+    Ok(ChipState {
         three: chip.plls == 3,
         odd: [odd[0] == 1, odd[1] == 1, odd[2] == 1],
-        scale,
+        scale: scale_of(chip.scale),
         hsion: chip.hsion == 1,
-        hsidiv,
-    }
+        hsidiv: hsidiv_of(chip.hsidiv),
+    })
 }

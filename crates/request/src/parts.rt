@@ -3,32 +3,24 @@ ghost use Rattle.std.specs.Prelude.{◌≡◌, ◌+◌, ◌*◌, ◌<◌, ◌≤
 ghost use Rattle.rules.specs.Document01.Bytes.{no_part, size_of};
 ghost use Rattle.request.specs.Parts.{u32le_at, hertz_at, mco1_at, mco2_at, strategy_at, part_at, third_at, decoded};
 
-use types::{Hertz, Mco1Source, Mco2Source, PllRequest, Request, Strategy};
-
-// The number of four bytes, the low one first.
-fn u32le_of(a: u8, b: u8, c: u8, d: u8) -> u32
-    ensures { result ≡ a + 256 * b + 65_536 * c + 16_777_216 * d }
-{
-    (a as u32) + 256 * (b as u32) + 65_536 * (c as u32) + 16_777_216 * (d as u32)
-}
+use types::{Mco1Source, Mco2Source, PllRequest, Request, Strategy};
 
 // Four bytes, little-endian.
+#[tactic(auto, unfolding(crate::specs::Parts::u32le_at))]
 pub fn u32le_at(b: &[u8], at: usize) -> u32
     requires { at + 4 ≤ length b.now }
     ensures { result ≡ u32le_at b.now at }
 {
-    u32le_of(b[at], b[at + 1], b[at + 2], b[at + 3])
+    u32::from_le_bytes([b[at], b[at + 1], b[at + 2], b[at + 3]])
 }
 
-fn hertz_at(b: &[u8], at: usize) -> Hertz
+#[tactic(auto, unfolding(crate::specs::Parts::hertz_at))]
+fn hertz_at(b: &[u8], at: usize) -> Option<u32>
     requires { at + 5 ≤ length b.now }
     ensures { result ≡ hertz_at b.now at }
 {
     let number = u32le_at(b, at + 1);
-    if b[at] == 0 {
-        return Hertz::Unset;
-    }
-    Hertz::Hz(number)
+    if b[at] == 0 { None } else { Some(number) }
 }
 
 fn mco1_at(b: &[u8], at: usize) -> Mco1Source
@@ -63,9 +55,10 @@ fn strategy_at(b: &[u8], at: usize) -> Strategy
     ensures { result ≡ strategy_at b.now at }
 {
     if b[at] == 0 {
-        return Strategy::Integer;
+        Strategy::Integer
+    } else {
+        Strategy::Fractional
     }
-    Strategy::Fractional
 }
 
 pub fn part_at(b: &[u8], at: usize) -> PllRequest
@@ -81,14 +74,14 @@ pub fn part_at(b: &[u8], at: usize) -> PllRequest
 }
 
 // No PLL3 part.
-pub fn no_part() -> PllRequest
+fn no_part() -> PllRequest
     ensures { result ≡ no_part }
 {
     PllRequest {
         strategy: Strategy::Integer,
-        p: Hertz::Unset,
-        q: Hertz::Unset,
-        r: Hertz::Unset,
+        p: None,
+        q: None,
+        r: None,
     }
 }
 
@@ -97,13 +90,11 @@ fn third_at(b: &[u8], three: bool) -> PllRequest
     requires { size_of three ≤ length b.now }
     ensures { result ≡ third_at three b.now }
 {
-    if three {
-        return part_at(b, 90);
-    }
-    no_part()
+    if three { part_at(b, 90) } else { no_part() }
 }
 
 // The whole request.
+#[tactic(auto, unfolding(crate::specs::Parts::decoded))]
 pub fn decode(b: &[u8], three: bool) -> Request
     requires { (90 ≤ length b.now) × (size_of three ≤ length b.now) }
     ensures { result ≡ decoded three b.now }

@@ -1,8 +1,7 @@
 -- The byte form of a request, written: document 01, One call, from the top, second paragraph, in three groups of bytes. That these are the bytes
 -- of `request_bytes` of crates/rules is proved in proofs/Writing.antt.
-use Rattle.std.specs.Prelude.{◌≡◌, Bool, cond, ◌&&◌, ◌||◌, List, ◌∷◌, ◌++◌, ℕ, eqb, length}
+use Rattle.std.specs.Prelude.{◌≡◌, Bool, cond, ◌&&◌, ◌||◌, List, ◌∷◌, ◌++◌, ℕ, eqb, length, Option}
 use Rattle.std.proofs.lemmas.List.Edits.{sets}
-use Rattle.types.specs.declared.Hertz.{Hertz}
 use Rattle.types.specs.declared.Request.{Request}
 use Rattle.rules.specs.Document01.Request.{pll_at}
 use Rattle.rules.specs.Document01.Mco.{mco1_code, mco2_code}
@@ -22,7 +21,7 @@ pub record Stored (before after : List ℕ) (at : ℕ) (bytes : List ℕ) : Type
   pub long : length after ≡ length before
 
 -- three hertz in a row
-abbrev pub three_bytes : (a b c : Hertz) → List ℕ
+abbrev pub three_bytes : (a b c : Option ℕ) → List ℕ
 three_bytes a b c = hertz_bytes a ++ (hertz_bytes b ++ hertz_bytes c)
 
 -- HSE, LSE, audio, system, peripheral, AHB, APB1 to 3

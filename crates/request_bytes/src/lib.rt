@@ -9,6 +9,7 @@ use types::Request;
 mod write;
 
 // The bytes of a request, where there is room for just them; on two PLLs nothing may stand in the third part. Else false, and nothing is stored.
+#[tactic(auto, using(crate::proofs::Writing::writing))]
 pub fn write_request(request: Request, three: bool, out: &mut [u8]) -> bool
     ensures value { result ≡ is_written three request (length out.old) }
     ensures out_after { out.new ≡ room_after three request out.old }

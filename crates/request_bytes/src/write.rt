@@ -1,76 +1,19 @@
 // A request's bytes, stored at their places.
 ghost use Rattle.std.specs.Prelude.{◌≡◌, ◌∷◌, ◌+◌, ◌≤◌, length};
-ghost use Rattle.rules.specs.Document01.Mco.{mco1_code, mco2_code};
-ghost use Rattle.rules.specs.Document01.Bytes.{u32le_bytes, hertz_bytes, flag_byte, strategy_code, pll_bytes, size_of};
+ghost use Rattle.rules.specs.Document01.Bytes.{u32le_bytes, hertz_bytes, pll_bytes, size_of};
 ghost use Rattle.request_bytes.specs.Writing.{is_written, Stored, three_bytes, clocks_bytes, outputs_bytes, plls_bytes};
 
-use types::{Hertz, Mco1Source, Mco2Source, PllRequest, Request, Strategy};
-
-// 90 bytes on two PLLs, 106 on three.
-fn size_of(three: bool) -> usize
-    ensures { result ≡ size_of three }
-{
-    if three {
-        return 106;
-    }
-    90
-}
+use types::{PllRequest, Request};
 
 // There is room for just the bytes, and on two PLLs nothing stands in the third part.
+#[tactic(auto, unfolding(crate::specs::Writing::is_written))]
 pub fn is_written(room: usize, three: bool, request: Request) -> bool
     ensures { result ≡ is_written three request room }
 {
-    if room != size_of(three) {
+    if room != request::size_of(three) {
         return false;
     }
-    if three {
-        return true;
-    }
-    let plls = request.plls;
-    hertz::is_no_part(plls[2])
-}
-
-fn flag_byte(b: bool) -> u8
-    ensures { result ≡ flag_byte b }
-{
-    if b {
-        return 1;
-    }
-    0
-}
-
-fn strategy_code(s: Strategy) -> u8
-    ensures { result ≡ strategy_code s }
-{
-    match s {
-        Strategy::Integer => 0,
-        Strategy::Fractional => 1,
-    }
-}
-
-fn mco1_code(s: Mco1Source) -> u8
-    ensures { result ≡ mco1_code s }
-{
-    match s {
-        Mco1Source::Hsi => 0,
-        Mco1Source::Lse => 1,
-        Mco1Source::Hse => 2,
-        Mco1Source::Pll1Q => 3,
-        Mco1Source::Hsi48 => 4,
-    }
-}
-
-fn mco2_code(s: Mco2Source) -> u8
-    ensures { result ≡ mco2_code s }
-{
-    match s {
-        Mco2Source::Sysclk => 0,
-        Mco2Source::Pll2P => 1,
-        Mco2Source::Hse => 2,
-        Mco2Source::Pll1P => 3,
-        Mco2Source::Csi => 4,
-        Mco2Source::Lsi => 5,
-    }
+    three || hertz::is_no_part(request.plls[2])
 }
 
 // A byte and a word, little-endian.
@@ -78,25 +21,26 @@ fn put_u32le(out: &mut [u8], at: usize, set: u8, n: u32)
     requires { at + 5 ≤ length out.old }
     ensures { Stored out.old out.new at (set ∷ u32le_bytes n) }
 {
+    let bytes = n.to_le_bytes();
     out[at] = set;
-    out[at + 1] = (n % 256) as u8;
-    out[at + 2] = (n / 256 % 256) as u8;
-    out[at + 3] = (n / 65_536 % 256) as u8;
-    out[at + 4] = (n / 16_777_216 % 256) as u8;
+    out[at + 1] = bytes[0];
+    out[at + 2] = bytes[1];
+    out[at + 3] = bytes[2];
+    out[at + 4] = bytes[3];
 }
 
-fn put_hertz(out: &mut [u8], at: usize, h: Hertz)
+fn put_hertz(out: &mut [u8], at: usize, h: Option<u32>)
     requires { at + 5 ≤ length out.old }
     ensures { Stored out.old out.new at (hertz_bytes h) }
 {
     match h {
-        Hertz::Unset => put_u32le(out, at, 0, 0),
-        Hertz::Hz(n) => put_u32le(out, at, 1, n),
+        None => put_u32le(out, at, 0, 0),
+        Some(n) => put_u32le(out, at, 1, n),
     }
 }
 
 // Three hertz in a row.
-fn put_three(out: &mut [u8], at: usize, a: Hertz, b: Hertz, c: Hertz)
+fn put_three(out: &mut [u8], at: usize, a: Option<u32>, b: Option<u32>, c: Option<u32>)
     requires { at + 15 ≤ length out.old }
     ensures { Stored out.old out.new at (three_bytes a b c) }
 {
@@ -110,49 +54,35 @@ fn put_part(out: &mut [u8], at: usize, a: PllRequest)
     requires { at + 16 ≤ length out.old }
     ensures { Stored out.old out.new at (pll_bytes a) }
 {
-    let s = a.strategy;
-    let p = a.p;
-    let q = a.q;
-    let r = a.r;
-    out[at] = strategy_code(s);
-    put_three(out, at + 1, p, q, r);
+    out[at] = a.strategy as u8;
+    put_three(out, at + 1, a.p, a.q, a.r);
 }
 
+#[tactic(auto, using(crate::proofs::Writing::then, crate::proofs::Writing::three_length), unfolding(crate::specs::Writing::clocks_bytes))]
 pub fn put_clocks(out: &mut [u8], request: Request)
     requires { 90 ≤ length out.old }
     ensures { Stored out.old out.new 0 (clocks_bytes request) }
 {
-    let hse = request.hse;
-    let lse = request.lse;
-    let audio = request.audio;
-    let system = request.system;
-    let peripheral = request.peripheral;
-    let ahb = request.ahb;
-    let apb1 = request.apb1;
-    let apb2 = request.apb2;
-    let apb3 = request.apb3;
-    put_three(out, 0, hse, lse, audio);
-    put_three(out, 15, system, peripheral, ahb);
-    put_three(out, 30, apb1, apb2, apb3);
+    put_three(out, 0, request.hse, request.lse, request.audio);
+    put_three(out, 15, request.system, request.peripheral, request.ahb);
+    put_three(out, 30, request.apb1, request.apb2, request.apb3);
 }
 
 // The bypass flag, and MCO1 and MCO2 with their sources.
+#[tactic(auto, using(crate::proofs::Writing::outputs), unfolding(crate::specs::Writing::outputs_bytes))]
 pub fn put_outputs(out: &mut [u8], request: Request)
     requires { 90 ≤ length out.old }
     ensures { Stored out.old out.new 45 (outputs_bytes request) }
 {
-    let source1 = request.mco1source;
-    let mco1 = request.mco1;
-    let source2 = request.mco2source;
-    let mco2 = request.mco2;
-    out[45] = flag_byte(request.bypass);
-    out[46] = mco1_code(source1);
-    put_hertz(out, 47, mco1);
-    out[52] = mco2_code(source2);
-    put_hertz(out, 53, mco2);
+    out[45] = request.bypass as u8;
+    out[46] = request.mco1source as u8;
+    put_hertz(out, 47, request.mco1);
+    out[52] = request.mco2source as u8;
+    put_hertz(out, 53, request.mco2);
 }
 
 // The PLL3 part is there on three PLLs only.
+#[tactic(auto, using(crate::proofs::Writing::then, crate::proofs::Writing::none, rules::proofs::Document01::BytesWhole::pll_length), unfolding(crate::specs::Writing::plls_bytes))]
 pub fn put_plls(out: &mut [u8], three: bool, request: Request)
     requires { (90 ≤ length out.old) × (size_of three ≤ length out.old) }
     ensures { Stored out.old out.new 58 (plls_bytes three request) }
@@ -162,6 +92,5 @@ pub fn put_plls(out: &mut [u8], three: bool, request: Request)
     put_part(out, 74, plls[1]);
     if three {
         put_part(out, 90, plls[2]);
-        return;
     }
 }

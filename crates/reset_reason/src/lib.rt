@@ -3,9 +3,8 @@
 
 ghost use Rattle.std.specs.Prelude.{◌≡◌, false};
 ghost use Rattle.rules.specs.Document01.ResetReason.{reason_of, write_back_of, reset_of};
-ghost use Rattle.rules.specs.Answers.{reset_result};
 
-use types::{Refusal, ResetAnswer, ResetReason};
+use types::{Refusal, Reset, ResetReason};
 
 // The flags of RCC_RSR from bit 26 up, with PIN first: the sets that tell a reason.
 const PIN: u32 = 1;
@@ -39,6 +38,7 @@ fn reason_of(word: u32) -> ResetReason
 }
 
 // The word as read with RMVF set: bit 23.
+#[tactic(auto, unfolding(rules::specs::Document01::ResetReason::write_back_of))]
 fn write_back_of(word: u32) -> u32
     ensures { result ≡ write_back_of word }
 {
@@ -54,15 +54,18 @@ const RM0492: u32 = 2;
 const RM0481: u32 = 3;
 
 // A word of RCC_RSR on a chip with so many PLLs; on three the reason is always unknown.
-pub fn reset_reason(plls: u32, word: u32) -> ResetAnswer
-    ensures { reset_result result ≡ reset_of plls word }
+#[tactic(auto, unfolding(rules::specs::Document01::ResetReason::reset_of, rules::specs::Document01::ResetReason::reason_of))]
+pub fn reset_reason(plls: u32, word: u32) -> Result<Reset, Refusal>
+    ensures { result ≡ reset_of plls word }
 {
-    let back = write_back_of(word);
+    let write_back = write_back_of(word);
     if plls == RM0492 {
-        return ResetAnswer::Reason(reason_of(word), back);
+        let reason = reason_of(word);
+        return Ok(Reset { reason, write_back });
     }
     if plls == RM0481 {
-        return ResetAnswer::Reason(ResetReason::Unknown(word), back);
+        let reason = ResetReason::Unknown(word);
+        return Ok(Reset { reason, write_back });
     }
-    ResetAnswer::Refused(Refusal::OutsideCodes)
+    Err(Refusal::OutsideCodes)
 }

@@ -1,17 +1,14 @@
 -- The bench settings of document 01, A to O, in one table: each request as bytes, the chip, and the numbers stated or the refusal. One theorem
 -- over all of them, computed on a chip with two PLLs and on one with three.
+use Rattle.std.specs.Prelude.{Option, Some, None}
 use mathlib.Core.Path.{◌≡◌, refl}
 use mathlib.Core.List.{List, [], ◌∷◌, ◌++◌, map}
 use mathlib.Core.Bool.{true, false}
 use Prim.Native.Nat.{ℕ}
-use Rattle.types.specs.declared.Hertz.TheVariants.{Unset, Hz}
 use Rattle.types.specs.declared.Strategy.TheVariants.{Integer, Fractional}
 use Rattle.types.specs.declared.Mco1Source.{Mco1Source}
 use Rattle.types.specs.declared.Request.{Request}
-use Rattle.types.specs.declared.Fraction.{Fraction}
-use Rattle.types.specs.declared.Fraction.TheVariants.{Whole, Part}
 use Rattle.types.specs.declared.PllOutput.{PllOutput}
-use Rattle.types.specs.declared.PllOutput.TheVariants.{Off, On}
 use Rattle.types.specs.declared.PllSettings.{PllSettings}
 use Rattle.types.specs.declared.Plan.{Plan}
 use Rattle.rules.specs.Document01.Bytes.{request_bytes}
@@ -21,17 +18,17 @@ use Rattle.rules.proofs.Samples.{pll, none, clocks, on_hsi, on_hse, system, mco1
 
 -- ---- what is looked at
 -- M, N, FRACN and divider, by settings
-abbrev fracn_in : Fraction → ℕ
-fracn_in Whole = 0
-fracn_in (Part f) = f
+abbrev fracn_in : Option ℕ → ℕ
+fracn_in None = 0
+fracn_in (Some f) = f
 
-abbrev divider_in : PllOutput → ℕ
-divider_in Off = 0
-divider_in (On d h) = d
+abbrev divider_in : Option PllOutput → ℕ
+divider_in None = 0
+divider_in (Some o) = o.divider
 
-abbrev hertz_in : PllOutput → ℕ
-hertz_in Off = 0
-hertz_in (On d h) = h
+abbrev hertz_in : Option PllOutput → ℕ
+hertz_in None = 0
+hertz_in (Some o) = o.clock
 
 -- VCOSEL (0 wide, 1 medium), M, N, P's divider
 abbrev dividers : PllSettings → List ℕ
@@ -85,43 +82,43 @@ refused q odd number = record { request = q; odd = odd; looks = λ p. []; stated
 abbrev pub settings : List Setting
 settings =
     -- A* odd forbidden, system 250,000,000: wide, M 8, N 125, P 2; Scale0 latency 5. B* odd allowed: medium, M 16, N 125, P 1
-    is (system 250_000_000 Unset) 0 (in_pll1 dividers) (0 ∷ 8 ∷ 125 ∷ 2 ∷ [])
-    ∷ is (system 250_000_000 Unset) 0 latency (5 ∷ [])
-    ∷ is (system 250_000_000 Unset) 1 (in_pll1 dividers) (1 ∷ 16 ∷ 125 ∷ 1 ∷ [])
+    is (system 250_000_000 None) 0 (in_pll1 dividers) (0 ∷ 8 ∷ 125 ∷ 2 ∷ [])
+    ∷ is (system 250_000_000 None) 0 latency (5 ∷ [])
+    ∷ is (system 250_000_000 None) 1 (in_pll1 dividers) (1 ∷ 16 ∷ 125 ∷ 1 ∷ [])
     -- C* PLL2 Fractional P 12,288,000: M 18, ref 1,777,777, N 235, divider 34, FRACN 66, VCO 417,791,904, clock 12,287,997. D Integer: 12,287,576
-    ∷ is (on_hsi (pll Fractional (Hz 12_288_000) Unset)) 1 (in_pll2 fractional) (18 ∷ 1_777_777 ∷ 235 ∷ 34 ∷ 66 ∷ 417_791_904 ∷ 12_287_997 ∷ [])
-    ∷ is (on_hsi (pll Integer (Hz 12_288_000) Unset)) 1 (in_pll2 p_hertz) (12_287_576 ∷ [])
+    ∷ is (on_hsi (pll Fractional (Some 12_288_000) None)) 1 (in_pll2 fractional) (18 ∷ 1_777_777 ∷ 235 ∷ 34 ∷ 66 ∷ 417_791_904 ∷ 12_287_997 ∷ [])
+    ∷ is (on_hsi (pll Integer (Some 12_288_000) None)) 1 (in_pll2 p_hertz) (12_287_576 ∷ [])
     -- E* one output 419,999,999 medium, 420,000,000 wide, 560,000,000 is 9. F* 1,634,242: target 209,182,976, divider 128; 1,634,241 is 10
-    ∷ is (on_hsi (pll Integer (Hz 419_999_999) Unset)) 1 (in_pll2 vcosel) (1 ∷ [])
-    ∷ is (on_hsi (pll Integer (Hz 420_000_000) Unset)) 1 (in_pll2 vcosel) (0 ∷ [])
-    ∷ refused (on_hsi (pll Integer (Hz 560_000_000) Unset)) 1 9
-    ∷ is (on_hsi (pll Integer (Hz 1_634_242) Unset)) 1 (in_pll2 target) (209_182_976 ∷ 128 ∷ [])
-    ∷ refused (on_hsi (pll Integer (Hz 1_634_241) Unset)) 1 10
+    ∷ is (on_hsi (pll Integer (Some 419_999_999) None)) 1 (in_pll2 vcosel) (1 ∷ [])
+    ∷ is (on_hsi (pll Integer (Some 420_000_000) None)) 1 (in_pll2 vcosel) (0 ∷ [])
+    ∷ refused (on_hsi (pll Integer (Some 560_000_000) None)) 1 9
+    ∷ is (on_hsi (pll Integer (Some 1_634_242) None)) 1 (in_pll2 target) (209_182_976 ∷ 128 ∷ [])
+    ∷ refused (on_hsi (pll Integer (Some 1_634_241) None)) 1 10
     -- G P 200,000,000 with Q 1,562,500: Q divider 128; 1,562,499 is 8
-    ∷ is (on_hsi (pll Integer (Hz 200_000_000) (Hz 1_562_500))) 1 (in_pll2 q_divider) (128 ∷ [])
-    ∷ refused (on_hsi (pll Integer (Hz 200_000_000) (Hz 1_562_499))) 1 8
+    ∷ is (on_hsi (pll Integer (Some 200_000_000) (Some 1_562_500))) 1 (in_pll2 q_divider) (128 ∷ [])
+    ∷ refused (on_hsi (pll Integer (Some 200_000_000) (Some 1_562_499))) 1 8
     -- H* odd forbidden: P 1,000,000 is 14; P 80,000,000 with Q 200,000,000 is 15
-    ∷ refused (on_hsi (pll Integer (Hz 1_000_000) Unset)) 0 14
-    ∷ refused (on_hsi (pll Integer (Hz 80_000_000) (Hz 200_000_000))) 0 15
+    ∷ refused (on_hsi (pll Integer (Some 1_000_000) None)) 0 14
+    ∷ refused (on_hsi (pll Integer (Some 80_000_000) (Some 200_000_000))) 0 15
     -- I P 30,000,000, Q 100,000,000: P is 30,769,230; Fractional is 13
-    ∷ is (on_hsi (pll Integer (Hz 30_000_000) (Hz 100_000_000))) 1 (in_pll2 p_hertz) (30_769_230 ∷ [])
-    ∷ refused (on_hsi (pll Fractional (Hz 30_000_000) (Hz 100_000_000))) 1 13
+    ∷ is (on_hsi (pll Integer (Some 30_000_000) (Some 100_000_000))) 1 (in_pll2 p_hertz) (30_769_230 ∷ [])
+    ∷ refused (on_hsi (pll Fractional (Some 30_000_000) (Some 100_000_000))) 1 13
     -- J* system 250,000,000, AHB 50,000,000: 62,500,000. K* system 32,000,000, AHB 820,513: / 16; 820,512: / 64
-    ∷ is (system 250_000_000 (Hz 50_000_000)) 1 ahb (4 ∷ 62_500_000 ∷ [])
-    ∷ is (system 32_000_000 (Hz 820_513)) 1 ahb (16 ∷ 2_000_000 ∷ [])
-    ∷ is (system 32_000_000 (Hz 820_512)) 1 ahb (64 ∷ 500_000 ∷ [])
+    ∷ is (system 250_000_000 (Some 50_000_000)) 1 ahb (4 ∷ 62_500_000 ∷ [])
+    ∷ is (system 32_000_000 (Some 820_513)) 1 ahb (16 ∷ 2_000_000 ∷ [])
+    ∷ is (system 32_000_000 (Some 820_512)) 1 ahb (64 ∷ 500_000 ∷ [])
     -- L* MCO1 from HSI 2,133,334: 15; 2,133,333 is 23
-    ∷ is (mco1_from Mco1Source.Hsi (Hz 2_133_334)) 1 mco1 (15 ∷ [])
-    ∷ refused (mco1_from Mco1Source.Hsi (Hz 2_133_333)) 1 23
+    ∷ is (mco1_from Mco1Source.Hsi (Some 2_133_334)) 1 mco1 (15 ∷ [])
+    ∷ refused (mco1_from Mco1Source.Hsi (Some 2_133_333)) 1 23
     -- M* HSE alone, hence AHB, Scale0 latency: 42,000,000: 0; 42,000,001: 1; 251,000,001: 7
     ∷ is (on_hse 42_000_000 none) 1 latency (0 ∷ [])
     ∷ is (on_hse 42_000_001 none) 1 latency (1 ∷ [])
     ∷ is (on_hse 251_000_001 none) 1 latency (7 ∷ [])
     -- N HSE 100, AHB 1 is 19
-    ∷ refused (clocks (Hz 100) Unset (Hz 1) Unset) 1 19
+    ∷ refused (clocks (Some 100) None (Some 1) None) 1 19
     -- O HSE 126,000,000: M 63 for PLL2 P 250,000,000; 126,000,001 is 11
-    ∷ is (on_hse 126_000_000 (pll Integer (Hz 250_000_000) Unset)) 1 (in_pll2 divisor_m) (63 ∷ [])
-    ∷ refused (on_hse 126_000_001 (pll Integer (Hz 250_000_000) Unset)) 1 11
+    ∷ is (on_hse 126_000_000 (pll Integer (Some 250_000_000) None)) 1 (in_pll2 divisor_m) (63 ∷ [])
+    ∷ refused (on_hse 126_000_001 (pll Integer (Some 250_000_000) None)) 1 11
     ∷ []
 
 -- ---- what the planner's call answers

@@ -1,5 +1,4 @@
 pub mod Document01
 pub mod Manual
 pub mod Stated
-pub mod Answers
 pub mod Words

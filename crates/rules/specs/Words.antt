@@ -1,14 +1,12 @@
 -- Entries and what a walk shows as nine words each, for callers that have numbers and slices alone: docs/CODES.md, Entries as words.
-use Rattle.std.specs.Prelude.{cond, List, [], ◌∷◌, ℕ, zero, suc, ◌+◌, ◌*◌, ◌/◌, ltb, leb, length, get_or, set, replicate}
+use Rattle.std.specs.Prelude.{cond, List, [], ◌∷◌, ℕ, zero, suc, ◌+◌, ◌*◌, ◌/◌, ltb, leb, length, get_or, set, replicate, Option, unwrap_or, is_some}
+use Rattle.types.specs.declared.PllSettings.{PllSettings}
 use Rattle.types.specs.declared.Entry.{Entry}
 use Rattle.types.specs.declared.Entry.TheVariants.{Set, Set2, Set3, Set4, Wait, Wait2, Check, Read}
 use Rattle.types.specs.declared.Shown.{Shown}
 use Rattle.types.specs.declared.Shown.TheVariants.{Next, Finished, Stopped}
-use Rattle.types.specs.declared.Hertz.{Hertz}
-use Rattle.types.specs.declared.Pll.{Pll}
 use Rattle.types.specs.declared.Plan.{Plan}
 use Rattle.rules.specs.Document01.Refusals.{number_of}
-use Rattle.rules.specs.Document01.Hertz.{is_set, hertz_or}
 use Rattle.rules.specs.Document01.OnePll.{p_clock, q_clock, r_clock}
 use Rattle.rules.specs.Document01.Entries.{bit, pll_in, most}
 use Rattle.rules.specs.Document01.Walk.{Stand, shown_of}
@@ -70,11 +68,11 @@ stored_from b at [] = b
 stored_from b at (w ∷ ws) = stored_from (set b at w) (suc at) ws
 
 -- a clock: whether it is there, and its hertz
-abbrev pub hertz_words : Hertz → List ℕ → List ℕ
-hertz_words h ws = bit (is_set h) ∷ hertz_or h 0 ∷ ws
+abbrev pub hertz_words : Option ℕ → List ℕ → List ℕ
+hertz_words h ws = bit (is_some h) ∷ unwrap_or h 0 ∷ ws
 
 -- P, Q and R of a PLL
-abbrev pub pll_words : Pll → List ℕ → List ℕ
+abbrev pub pll_words : Option PllSettings → List ℕ → List ℕ
 pll_words x ws = hertz_words (p_clock x) (hertz_words (q_clock x) (hertz_words (r_clock x) ws))
 
 -- all words, in the order of docs/CODES.md

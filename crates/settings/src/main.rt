@@ -7,7 +7,7 @@ mod table;
 
 fn main() {
     print::say(b"number            stated      two PLLs    three PLLs\n");
-    let t = table::compared();
+    let t = compare::each(table::TABLE);
     found::line(
         b"{0} numbers of {1} settings compared on two and on three PLLs, {2} differ\n",
         &[t.numbers, t.settings, t.differ],

@@ -1,11 +1,7 @@
 // What document 01 states of its bench settings. A line is a setting's letter, the words of a request, and behind the colon the numbers stated:
 // refused is 0 for a plan, else the refusal's number; VCOSEL is 0 for wide and 1 for medium.
-use crate::compare;
-use crate::compare::Tally;
-
-pub fn compared() -> Tally {
-    compare::each(
-        b"A odd1=0 sys=250M : refused=0 pll1.vcosel=0 pll1.m=8 pll1.n=125 pll1.divp=2 latency=5
+pub const TABLE: &str =
+    "A odd1=0 sys=250M : refused=0 pll1.vcosel=0 pll1.m=8 pll1.n=125 pll1.divp=2 latency=5
 B sys=250M : refused=0 pll1.vcosel=1 pll1.m=16 pll1.n=125 pll1.divp=1
 C pll2=fractional pll2.p=12.288M : refused=0 pll2.m=18 pll2.ref=1777777 pll2.n=235 pll2.divp=34 pll2.fracn=66 pll2.vco=417791904 pll2.hertz=12287997
 D pll2.p=12.288M : refused=0 pll2.hertz=12287576
@@ -31,6 +27,4 @@ M hse=251000001 : refused=0 latency=7
 N hse=100 ahb=1 : refused=19
 O hse=126M pll2.p=250M : refused=0 pll2.m=63
 O hse=126000001 pll2.p=250M : refused=11
-",
-    )
-}
+";

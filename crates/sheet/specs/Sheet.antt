@@ -1,5 +1,6 @@
 -- A sheet: the bytes of a request and of a chip that words fill in. docs/CODES.md, A request in words.
-use Rattle.std.specs.Prelude.{Bool, true, cond, not, ◌&&◌, ◌||◌, List, [], ◌∷◌, ◌++◌, ℕ, min, eqb, length, get_or, take, drop, replicate}
+use Rattle.std.specs.Prelude.{Bool, cond, not, ◌||◌, List, [], ◌∷◌, ◌++◌, ℕ, min, eqb, length, get_or, take, drop, replicate}
+use Rattle.std.specs.List.{list_all}
 use Rattle.types.specs.declared.Chip.{Chip}
 
 -- nothing requested, of a chip with two PLLs as docs/CODES.md has it by default; the plan is shown, no bytes are given
@@ -8,9 +9,8 @@ fresh_sheet = replicate 106 0 ++ (2 ∷ 0 ∷ 1 ∷ 1 ∷ 0 ∷ 1 ∷ 2 ∷ 0 �
 
 -- ---- what the planner is asked
 -- whether all bytes are 0
-unfoldable pub all_zero : List ℕ → Bool
-all_zero [] = true
-all_zero (b ∷ bs) = eqb b 0 && all_zero bs
+abbrev pub all_zero : List ℕ → Bool
+all_zero bs = list_all (λ b. eqb b 0) bs
 
 -- how many bytes are meant: as many as bytes= gave; else 106 with three PLLs or anything requested of PLL3, else 90
 abbrev pub bytes_meant : List ℕ → ℕ

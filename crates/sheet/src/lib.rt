@@ -2,12 +2,13 @@
 // chip's seven numbers, what is shown, and how many bytes of a request are given.
 #![tactic(auto)]
 
-ghost use Rattle.std.specs.Prelude.{◌≡◌, min, get_or, take, drop};
+ghost use Rattle.std.specs.Prelude.{◌≡◌, ◌≤◌, length, get_or, take, drop};
 ghost use Rattle.sheet.specs.Sheet.{fresh_sheet, all_zero, bytes_meant, request_length, chip_on};
 
 use types::Chip;
 
 // A sheet with nothing requested, of a chip with two PLLs.
+#[tactic(auto, unfolding(crate::specs::Sheet::fresh_sheet))]
 pub fn fresh() -> [u8; 115]
     ensures { result ≡ fresh_sheet }
 {
@@ -24,19 +25,14 @@ pub fn fresh() -> [u8; 115]
 fn no_pll3(sheet: &[u8]) -> bool
     ensures { result ≡ all_zero (take 16 (drop 90 sheet.now)) }
 {
-    for i in 90..106 {
-        if text::byte_at(sheet, i, 0) != 0 {
-            return false;
-        }
-    }
-    true
+    sheet.iter().skip(90).take(16).all(|b| *b == 0)
 }
 
 // How many bytes of a sheet are meant.
 fn bytes_meant(sheet: &[u8]) -> usize
     ensures { result ≡ bytes_meant sheet.now }
 {
-    let given = text::byte_at(sheet, 114, 0) as usize;
+    let given = usize::from(text::byte_at(sheet, 114, 0));
     if given != 0 {
         return given;
     }
@@ -49,30 +45,24 @@ fn bytes_meant(sheet: &[u8]) -> usize
     106
 }
 
-fn at_most(n: usize, bound: usize) -> usize
-    ensures { result ≡ min n bound }
-{
-    if n < bound {
-        return n;
-    }
-    bound
-}
-
 // How many bytes the request of a sheet has: no more than the sheet.
+#[tactic(auto, unfolding(crate::specs::Sheet::request_length))]
 pub fn request_length(sheet: &[u8]) -> usize
-    ensures { result ≡ request_length sheet.now }
+    ensures length { result ≡ request_length sheet.now }
+    ensures within { result ≤ length sheet.now }
 {
-    at_most(bytes_meant(sheet), sheet.len())
+    bytes_meant(sheet).min(sheet.len())
 }
 
 // A byte of a sheet as a number; 0 past its end.
 fn number_at(sheet: &[u8], i: usize) -> u32
     ensures { result ≡ get_or sheet.now i 0 }
 {
-    text::byte_at(sheet, i, 0) as u32
+    u32::from(text::byte_at(sheet, i, 0))
 }
 
 // The chip of a sheet.
+#[tactic(auto, unfolding(crate::specs::Sheet::chip_on))]
 pub fn chip(sheet: &[u8]) -> Chip
     ensures { result ≡ chip_on sheet.now }
 {

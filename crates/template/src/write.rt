@@ -1,101 +1,81 @@
-// Bytes written from a place on, as far as there is room.
+// Bytes written one behind the other, as far as there is room.
 ghost use Rattle.std.specs.Prelude.{◌≡◌, [], ◌∷◌, ◌≤◌, ◌<◌, length, drop, replicate};
 ghost use Rattle.text.specs.Names.{before};
 ghost use Rattle.template.specs.Write.{Wrote, decimal_of, aligned, name_of};
 
-pub fn push(out: &mut [u8], at: usize, b: u8) -> usize
-    requires { at ≤ length out.old }
-    ensures { Wrote out.old at (b ∷ []) out.new result }
-{
-    if at < out.len() {
-        out[at] = b;
-        return at + 1;
-    }
-    at
-}
+use crate::out::Out;
 
-fn blanks(out: &mut [u8], at: usize, count: usize) -> usize
-    requires { at ≤ length out.old }
-    ensures { Wrote out.old at (replicate count 32) out.new result }
-{
-    let mut to = at;
-    for i in 0..count {
-        to = push(out, to, b' ');
+impl Out<'_> {
+    pub fn push(&mut self, b: u8)
+        ensures { Wrote self.old self.new (b ∷ []) }
+    {
+        self.copy(&[b]);
     }
-    to
-}
 
-fn copy(out: &mut [u8], at: usize, s: &[u8]) -> usize
-    requires { at ≤ length out.old }
-    ensures { Wrote out.old at s.now out.new result }
-{
-    let mut to = at;
-    for i in 0..s.len() {
-        to = push(out, to, s[i]);
+    fn blanks(&mut self, count: usize)
+        ensures { Wrote self.old self.new (replicate count 32) }
+    {
+        let n = count.min(self.room.len() - self.at);
+        self.room[self.at..self.at + n].fill(b' ');
+        self.at += n;
     }
-    to
+
+    fn copy(&mut self, s: &[u8])
+        ensures { Wrote self.old self.new s.now }
+    {
+        text::store(self.room, self.at, s);
+        self.at += s.len().min(self.room.len() - self.at);
+    }
+
+    // A number, with blanks before it up to so many columns.
+    pub fn decimal(&mut self, width: usize, n: u64)
+        ensures { Wrote self.old self.new (aligned width (decimal_of n)) }
+    {
+        let mut row = [0u8; 20];
+        let from = digits(n, &mut row);
+        self.blanks(width.saturating_sub(20 - from));
+        self.copy(&row[from..]);
+    }
+
+    // Name n of a table, with the blanks behind it.
+    pub fn column(&mut self, names: &[u8], n: u64)
+        ensures { Wrote self.old self.new (name_of names.now n) }
+    {
+        self.copy(name_of(names, n));
+    }
+
+    // The same without them.
+    pub fn name(&mut self, names: &[u8], n: u64)
+        ensures { Wrote self.old self.new (before 32 (name_of names.now n)) }
+    {
+        let column = name_of(names, n);
+        self.copy(&column[..text::find(column, b' ')]);
+    }
 }
 
 // The digits of n at the end of a row of twenty; how many bytes of the row stand before them.
-fn digits(n: u64, row: &mut [u8]) -> usize
-    requires { length row.old ≡ 20 }
-    ensures { (result < 20) × (length row.new ≡ 20) × (drop result row.new ≡ decimal_of n) }
+fn digits(n: u64, row: &mut [u8; 20]) -> usize
+    ensures { (result < 20) × (drop result row.new ≡ decimal_of n) }
 {
     let mut rest = n;
-    let mut i = 19;
-    row[19] = 48 + (rest % 10) as u8;
-    while 10 <= rest {
-        if i == 0 {
-            return 0;
+    for i in (0..20).rev() {
+        row[i] = b'0' + (rest % 10) as u8;
+        rest /= 10;
+        if rest == 0 {
+            return i;
         }
-        rest = rest / 10;
-        i = i - 1;
-        row[i] = 48 + (rest % 10) as u8;
     }
-    i
+    0
 }
 
-// A number, with blanks before it up to so many columns.
-pub fn decimal(out: &mut [u8], at: usize, width: usize, n: u64) -> usize
-    requires { at ≤ length out.old }
-    ensures { Wrote out.old at (aligned width (decimal_of n)) out.new result }
+// Name n of a table, with the blanks behind it; nothing where there is none.
+#[tactic(auto, unfolding(crate::specs::Write::name_of))]
+fn name_of(names: &[u8], n: u64) -> &[u8]
+    ensures { result.now ≡ name_of names.now n }
 {
-    let mut row = [0u8; 20];
-    let from = digits(n, &mut row);
-    let count = 20 - from;
-    if count < width {
-        let to = blanks(out, at, width - count);
-        return copy(out, to, &row[from..]);
+    if n < (names.len() / 12) as u64 {
+        let from = 12 * n as usize;
+        return &names[from..from + 12];
     }
-    copy(out, at, &row[from..])
-}
-
-// Name n of a table, with the blanks behind it.
-pub fn column(out: &mut [u8], at: usize, names: &[u8], n: u64) -> usize
-    requires { at ≤ length out.old }
-    ensures { Wrote out.old at (name_of names.now n) out.new result }
-{
-    let count = (names.len() / 12) as u64;
-    if count <= n {
-        return at;
-    }
-    let from = 12 * (n as usize);
-    let to = from + 12;
-    copy(out, at, &names[from..to])
-}
-
-// The same without them.
-pub fn name(out: &mut [u8], at: usize, names: &[u8], n: u64) -> usize
-    requires { at ≤ length out.old }
-    ensures { Wrote out.old at (before 32 (name_of names.now n)) out.new result }
-{
-    let count = (names.len() / 12) as u64;
-    if count <= n {
-        return at;
-    }
-    let from = 12 * (n as usize);
-    let to = from + 12;
-    let whole = &names[from..to];
-    let end = text::find(whole, b' ');
-    copy(out, at, &whole[..end])
+    &[]
 }

@@ -1,34 +1,46 @@
--- Laws on a run of stores.
-use mathlib.Core.Path.{◌≡◌, sym, ap, ◌∙◌}
-use mathlib.Core.List.{List, ◌∷◌}
-use Prim.Native.Nat.{ℕ, suc, ◌+◌, ◌≤◌, ◌<◌}
+-- Laws on bytes stored from a place on.
+use mathlib.Core.Path.{◌≡◌, refl, sym, ap, ◌∙◌}
+use mathlib.Core.List.{List, [], ◌∷◌, ◌++◌}
+use Prim.Native.Nat.{ℕ, suc, ◌+◌, ◌-◌, ◌≤◌, min}
 use native.Mathlib.Omega.{arith}
-use lib.ListN.{length, get_or, set, drop}
-use lib.Seq.{sets, length-sets}
-use Rattle.text.proofs.Parts.{left_one, left_none}
+use lib.Dec.{ltb}
+use lib.ListN.{length, set, take, drop, drop_of_length-le}
+use lib.Seq.{sets, length-sets, set_out, length-take-le}
+use borrow.Author.Tests.{ltb-true, ltb-false}
+use Rattle.laws.proofs.Tests.{by_test}
+use borrow.Rule.Slice.PartMut.{put_mid, Post-is}
+use Rattle.std.proofs.Common.{append_assoc}
+use Rattle.std.proofs.lemmas.List.{take-append-drop}
+use Rattle.std.proofs.lemmas.List.Edits.{sets-eq}
 
--- the first of them, at place i behind p, and the others
-pub one_store : (l : List ℕ) (p i x : ℕ) (xs : List ℕ) → sets l (p + i) (x ∷ xs) ≡ sets (set l (p + i) x) (p + (i + 1)) xs
-one_store l p i x xs = let e : p + (i + 1) ≡ suc (p + i) = omega arith in rw e
+-- a text past the room's end changes nothing
+pub past : (l : List ℕ) (i : ℕ) (vs : List ℕ) → length l ≤ i → sets l i vs ≡ l
+past l i [] h = refl
+past l i (v ∷ vs) h = rw (set_out l i v h) (past l (suc i) vs (omega arith))
 
--- stores change no length
-pub stores_length : (l m xs ys : List ℕ) (p q : ℕ) → sets l p xs ≡ sets m q ys → length l ≡ length m
-stores_length l m xs ys p q e = sym (length-sets l p xs) ∙ ap length e ∙ length-sets m q ys
+-- two texts stored one behind the other are one
+pub joined : (l : List ℕ) (i : ℕ) (a b : List ℕ) → sets (sets l i a) (i + length a) b ≡ sets l i (a ++ b)
+joined l i [] b = ap (λ (k : ℕ). sets l k b) (omega arith)
+joined l i (v ∷ a) b = ap (λ (k : ℕ). sets (sets (set l i v) (suc i) a) k b) (omega arith) ∙ joined (set l i v) (suc i) a b
 
--- ---- the first i of some bytes are stored from p on
-abbrev pub Storing : (xs l₀ : List ℕ) → (p : ℕ) → (l : List ℕ) → (i : ℕ) → Type 0
-Storing xs l₀ p l i = (i ≤ length xs) × (sets l (p + i) (drop i xs) ≡ sets l₀ p xs)
+-- as much of a text as there is room for
+module _ (room : List ℕ) (at : ℕ) (text : List ℕ) (n : ℕ) (e : n ≡ min (length text) (length room - at)) (h : at ≤ length room) where
+  part_long : length (take n text) ≡ n
+  part_long = length-take-le n text (omega arith)
 
-module _ (xs l₀ : List ℕ) (p : ℕ) where
-  pub begins : Storing xs l₀ p l₀ 0
-  begins = let e : p + 0 ≡ p = omega arith in (omega arith, rw e)
+  -- what is left of it has no place
+  rest_lost : (l : List ℕ) → length l ≡ length room → sets l (at + n) (drop n text) ≡ l
+  rest_lost l d =
+      by_test (ltb n (length text))
+      (λ t. let k = ltb-true n (length text) t in past l (at + n) (drop n text) (omega arith))
+      (λ t. let k = ltb-false n (length text) t in let z : drop n text ≡ [] = drop_of_length-le text k in rw z)
 
-  module _ (l : List ℕ) (i : ℕ) (g : Storing xs l₀ p l i) where
-    pub same_length : length l ≡ length l₀
-    same_length = stores_length l l₀ (drop i xs) xs (p + i) p g.1
+  whole : sets room at text ≡ sets room at (take n text)
+  whole =
+      ap (λ (l : List ℕ). sets room at l) (sym (take-append-drop n text)) ∙ sym (joined room at (take n text) (drop n text))
+      ∙ rw part_long (rest_lost (sets room at (take n text)) (length-sets room at (take n text)))
 
-    pub goes_on : i < length xs → Storing xs l₀ p (set l (p + i) (get_or xs i 0)) (i + 1)
-    goes_on h = (omega arith, sym (one_store l p i (get_or xs i 0) (drop (i + 1) xs)) ∙ sym (rw (left_one xs i h)) ∙ g.1)
-
-    pub ends : length xs ≤ i → l ≡ sets l₀ p xs
-    ends h = sym (rw (left_none xs i h)) ∙ g.1
+  pub stored : {part : List ℕ} → part ≡ take n text → put_mid at (at + n - at) room part ≡ sets room at text
+  stored d =
+      let p : put_mid at (at + n - at) room (take n text) ≡ take at room ++ (take n text ++ drop (at + n) room) = rw (Post-is at (at + n) room (omega arith)) in
+      rw d (p ∙ sym (whole ∙ sets-eq (take n text) room at (rw part_long (omega arith)) ∙ rw part_long (append_assoc (take at room) (take n text) (drop (at + n) room))))

@@ -1,5 +1,7 @@
 -- Parts of a text, and names in a table. docs/CODES.md, A request in words.
-use Rattle.std.specs.Prelude.{Bool, true, false, cond, ◌&&◌, List, [], ◌∷◌, ◌++◌, ℕ, zero, suc, ◌+◌, ◌-◌, ◌*◌, ◌/◌, ltb, eqb, length, take, drop, replicate}
+use Rattle.std.specs.Prelude.{Bool, true, false, cond, ◌&&◌, List, [], ◌∷◌, ◌++◌, Option, None, Some, ℕ, zero, suc, ◌-◌, ◌*◌, ◌/◌, eqb, length, take, drop, replicate}
+use Rattle.std.specs.Option.{option_or}
+use Rattle.std.specs.List.{position_or_len, before_first, after_first}
 use Prim.Native.Char.{code}
 use Prim.Native.String.{String}
 use Prim.Native.String as Quoted
@@ -19,18 +21,25 @@ table_of [] = []
 table_of (name ∷ names) = column name ++ table_of names
 
 -- what stands before the first byte b; all where there is none
-unfoldable pub before : (b : ℕ) → List ℕ → List ℕ
-before b [] = []
-before b (x ∷ xs) = cond (eqb x b) [] (x ∷ before b xs)
+abbrev pub before : (b : ℕ) → List ℕ → List ℕ
+before b s = before_first (λ x. eqb x b) s
 
 -- what stands behind it
 abbrev pub behind : (b : ℕ) → List ℕ → List ℕ
-behind b s = drop (length (before b s) + 1) s
+behind b s = after_first (λ x. eqb x b) s
 
--- the least k below n that passes a test; n where none does
-unfoldable pub least : (ℕ → Bool) → ℕ → ℕ
-least p zero = zero
-least p (suc n) = cond (ltb (least p n) n) (least p n) (cond (p n) n (suc n))
+-- whether a text lacks a byte
+abbrev pub lacks : (b : ℕ) → List ℕ → Bool
+lacks b s = eqb (position_or_len (λ x. eqb x b) s) (length s)
+
+-- what stands behind the first byte b; none where there is none
+abbrev pub rest_behind : (b : ℕ) → List ℕ → Option (List ℕ)
+rest_behind b s = cond (lacks b s) None (Some (behind b s))
+
+-- the least k below n that passes a test; none where none does
+unfoldable pub least : (ℕ → Bool) → ℕ → Option ℕ
+least p zero = None
+least p (suc n) = option_or (least p n) (cond (p n) (Some n) None)
 
 -- whether a column holds a name, and blanks behind it
 unfoldable pub is_name : (column name : List ℕ) → Bool
@@ -43,6 +52,6 @@ is_name (c ∷ cs) (x ∷ xs) = eqb c x && is_name cs xs
 abbrev pub column_at : (names : List ℕ) → ℕ → List ℕ
 column_at names k = take 12 (drop (12 * k) names)
 
--- the number of a name in the table; how many there are where it is none of them
-unfoldable pub number_in : (names name : List ℕ) → ℕ
+-- the number of a name in the table; none where it is none of them
+unfoldable pub number_in : (names name : List ℕ) → Option ℕ
 number_in names name = least (λ k. is_name (column_at names k) name) (length names / 12)

@@ -1,119 +1,83 @@
 // Digits, a point among them, and a unit behind them.
-ghost use Rattle.std.specs.Prelude.{◌≡◌, cond, ◌+◌, ◌≤◌, ◌<◌, ◌^◌, length, take, drop};
-ghost use Rattle.text.specs.Numbers.{is_digit, with_digit, read_on, read_some, times_ten, and_then, pointed_by, unit_of};
+ghost use Rattle.std.specs.Prelude.{◌≡◌, ◌≤◌, IfSome};
+ghost use Rattle.text.specs.Numbers.{read_digit, read_on, read_some, times_ten, with_places, pointed_by, unit_of};
 
-use crate::{Number, find};
+use crate::split_once;
 
-// A number with one more digit; 2^32 where the byte is no digit.
-fn with_digit(v: u32, b: u8) -> u64
-    ensures { result ≡ cond (is_digit b) (with_digit v b) 4_294_967_296 }
+// A number with one more digit; none where the byte is no digit, or the number reaches 2^32.
+fn read_digit(v: u32, b: u8) -> Option<u32>
+    ensures { result ≡ read_digit v b }
 {
-    if b < 48 {
-        return 4_294_967_296;
+    if !b.is_ascii_digit() {
+        return None;
     }
-    if 57 < b {
-        return 4_294_967_296;
-    }
-    10 * (v as u64) + (b as u64 - 48)
+    let tens = v.checked_mul(10)?;
+    tens.checked_add(u32::from(b - b'0'))
 }
 
 // Digits read on from v.
-fn read_on(v: u32, s: &[u8]) -> Number
+#[tactic(auto, using(crate::proofs::Parts::left_one, crate::proofs::Parts::left_none), unfolding(crate::specs::Numbers::read_on))]
+fn read_on(v: u32, s: &[u8]) -> Option<u32>
     ensures { result ≡ read_on v s.now }
 {
     let mut value = v;
-    let mut i = 0;
-    while i < s.len() {
-        let next = with_digit(value, s[i]);
-        if 4_294_967_296 <= next {
-            return Number::Wrong;
-        }
-        value = next as u32;
-        i += 1;
+    for b in s {
+        value = read_digit(value, *b)?;
     }
-    Number::Is(value)
+    Some(value)
 }
 
 // At least one digit.
-pub fn read_some(v: u32, s: &[u8]) -> Number
+#[tactic(auto, unfolding(crate::specs::Numbers::read_some))]
+pub fn read_some(v: u32, s: &[u8]) -> Option<u32>
     ensures { result ≡ read_some v s.now }
 {
-    if s.len() == 0 {
-        return Number::Wrong;
+    if s.is_empty() {
+        return None;
     }
     read_on(v, s)
 }
 
-// Digits that follow those of a number.
-fn and_then(n: Number, s: &[u8]) -> Number
-    ensures { result ≡ and_then n s.now }
-{
-    match n {
-        Number::Wrong => Number::Wrong,
-        Number::Is(v) => read_some(v, s),
-    }
-}
-
-const TENS: [u64; 7] = [1, 10, 100, 1_000, 10_000, 100_000, 1_000_000];
-
-fn power_of_ten(k: usize) -> u64
-    requires { k ≤ 6 }
-    ensures { result ≡ 10 ^ k }
-{
-    TENS[k]
-}
+const TENS: [u32; 7] = [1, 10, 100, 1_000, 10_000, 100_000, 1_000_000];
 
 // A number times 10^k.
-fn times_ten(k: usize, n: Number) -> Number
+fn times_ten(k: usize, v: u32) -> Option<u32>
     requires { k ≤ 6 }
-    ensures { result ≡ times_ten k n }
+    ensures { result ≡ times_ten k v }
 {
-    match n {
-        Number::Wrong => Number::Wrong,
-        Number::Is(v) => {
-            let product = v as u64 * power_of_ten(k);
-            if product < 4_294_967_296 {
-                return Number::Is(product as u32);
-            }
-            Number::Wrong
-        }
+    v.checked_mul(TENS[k])
+}
+
+// The zeros of a unit: k for kilo, M for mega; none for any other byte.
+pub fn unit_of(b: u8) -> Option<usize>
+    ensures value { result ≡ unit_of b }
+    ensures small { IfSome result (λ zeros. zeros ≤ 6) }
+{
+    match b {
+        b'k' => Some(3),
+        b'M' => Some(6),
+        _ => None,
     }
 }
 
-// The zeros of a unit: k for kilo, M for mega; 0 for any other byte.
-pub fn unit_of(b: u8) -> usize
-    ensures { result ≡ unit_of b }
+// Digits before and behind a point, in a unit of so many zeros.
+#[tactic(auto, unfolding(crate::specs::Numbers::with_places))]
+fn with_places(unit: usize, whole: &[u8], places: &[u8]) -> Option<u32>
+    requires { unit ≤ 6 }
+    ensures { result ≡ with_places unit whole.now places.now }
 {
-    if b == b'k' {
-        return 3;
-    }
-    if b == b'M' {
-        return 6;
-    }
-    0
-}
-
-// The digits before and behind the point, as one number.
-fn joined(s: &[u8], point: usize) -> Number
-    requires { point < length s.now }
-    ensures { result ≡ and_then (read_some 0 (take point s.now)) (drop (point + 1) s.now) }
-{
-    let from = point + 1;
-    and_then(read_some(0, &s[..point]), &s[from..])
+    let zeros = unit.checked_sub(places.len())?;
+    times_ten(zeros, read_some(read_some(0, whole)?, places)?)
 }
 
 // Digits with a point among them or not, in a unit of so many zeros.
-pub fn pointed(s: &[u8], unit: usize) -> Number
+#[tactic(auto, unfolding(crate::specs::Numbers::pointed_by))]
+pub fn pointed(s: &[u8], unit: usize) -> Option<u32>
     requires { unit ≤ 6 }
     ensures { result ≡ pointed_by unit s.now }
 {
-    let point = find(s, b'.');
-    if point == s.len() {
-        return times_ten(unit, read_some(0, s));
+    match split_once(s, b'.') {
+        Some((whole, places)) => with_places(unit, whole, places),
+        None => times_ten(unit, read_some(0, s)?),
     }
-    let places = s.len() - (point + 1);
-    if unit < places {
-        return Number::Wrong;
-    }
-    times_ten(unit - places, joined(s, point))
 }

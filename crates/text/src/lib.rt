@@ -1,31 +1,57 @@
 // Bytes as text: where a byte stands, the number of a name, numbers and hertz in decimal. No clock is mentioned.
 #![tactic(auto)]
 
-ghost use Rattle.std.specs.Prelude.{◌≡◌, length, get_or};
-ghost use Rattle.text.specs.Names.{before, is_name, number_in};
+ghost use Rattle.std.specs.Prelude.{◌≡◌, ◌==◌, true, false, length, get_or, position, MatchOption, IfSome, option_copied, ◌<◌, ◌/◌};
+ghost use Rattle.std.specs.List.{list_all};
+ghost use Rattle.std.proofs.lemmas.List.Edits.{sets};
+ghost use Rattle.text.specs.Names.{before, behind, lacks, rest_behind, is_name, number_in};
 ghost use Rattle.text.specs.Numbers.{read_some, hertz_of};
 
 mod decimal;
 
-#[derive(Clone, Copy)]
-pub enum Number {
-    Wrong,
-    Is(u32),
+// The place of the first byte b.
+fn position(s: &[u8], b: u8) -> Option<usize>
+    ensures { result ≡ position (λ x. x == b) s.now }
+{
+    s.iter().position(|here| *here == b)
 }
 
 // The place of the first byte b; the length where there is none.
 pub fn find(s: &[u8], b: u8) -> usize
     ensures { result ≡ length (before b s.now) }
 {
-    let mut i = 0;
-    while i < s.len() {
-        let here = s[i];
-        if here == b {
-            return i;
-        }
-        i += 1;
+    position(s, b).unwrap_or(s.len())
+}
+
+// What stands before the first byte b and behind it; none where there is none.
+#[tactic(auto, using(crate::proofs::Parts::none_there))]
+fn split_once(s: &[u8], b: u8) -> Option<(&[u8], &[u8])>
+    ensures { MatchOption result (lacks b s.now ≡ true) (λ x. (lacks b s.now ≡ false) × (x.0.now ≡ before b s.now) × (x.1.now ≡ behind b s.now)) }
+{
+    let at = position(s, b)?;
+    Some((&s[..at], &s[at + 1..]))
+}
+
+// What stands before the first byte b, and behind it where there is one.
+pub fn around(s: &[u8], b: u8) -> (&[u8], Option<&[u8]>)
+    ensures front { result.0.now ≡ before b s.now }
+    ensures rest { option_copied result.1 ≡ rest_behind b s.now }
+{
+    match split_once(s, b) {
+        Some((front, rest)) => (front, Some(rest)),
+        None => (s, None),
     }
-    i
+}
+
+// Stores bytes from a place on, as far as there is room.
+#[tactic(auto, using(crate::proofs::Stores::stored, crate::proofs::Stores::past))]
+pub fn store(room: &mut [u8], at: usize, s: &[u8])
+    ensures { room.new ≡ sets room.old at s.now }
+{
+    if at < room.len() {
+        let n = s.len().min(room.len() - at);
+        room[at..at + n].copy_from_slice(&s[..n]);
+    }
 }
 
 // The byte at a place; b past the end.
@@ -38,56 +64,53 @@ pub fn byte_at(s: &[u8], i: usize, b: u8) -> u8
     b
 }
 
+fn is_blank(s: &[u8]) -> bool
+    ensures { result ≡ list_all (λ b. b == 32) s.now }
+{
+    s.iter().all(|b| *b == b' ')
+}
+
 // Whether a column holds a name, and blanks behind it.
+#[tactic(auto, using(crate::proofs::Named::name_parts, crate::proofs::Named::name_behind, std::proofs::lemmas::Grind::common_steps))]
 fn is_name(column: &[u8], name: &[u8]) -> bool
     ensures { result ≡ is_name column.now name.now }
 {
-    let mut i = 0;
-    while i < column.len() {
-        if column[i] != byte_at(name, i, b' ') {
-            return false;
-        }
-        i += 1;
-    }
-    name.len() <= i
+    column.starts_with(name) && is_blank(&column[name.len()..])
 }
 
-// The number of a name in a table of names, each of twelve columns; how many there are where it is none of them.
-pub fn name_number(names: &[u8], name: &[u8]) -> usize
-    ensures { result ≡ number_in names.now name.now }
+// The number of a name in a table of names, each of twelve columns; none where it is none of them. By number, since a chain over
+// chunks_exact leaves open that its chunks are the table's columns.
+#[tactic(auto, using(crate::proofs::Named::none_passed, crate::proofs::Named::pass, crate::proofs::Named::named, crate::proofs::Named::no_name))]
+pub fn name_number(names: &[u8], name: &[u8]) -> Option<usize>
+    ensures number { result ≡ number_in names.now name.now }
+    ensures inside { IfSome result (λ k. k < length names.now / 12) }
 {
-    let n = names.len() / 12;
-    let mut k = 0;
-    while k < n {
+    for k in 0..names.len() / 12 {
         let from = 12 * k;
-        let to = from + 12;
-        if is_name(&names[from..to], name) {
-            return k;
+        if is_name(&names[from..from + 12], name) {
+            return Some(k);
         }
-        k += 1;
     }
-    k
+    None
 }
 
 // A number in decimal, below 2^32.
-pub fn whole(s: &[u8]) -> Number
+pub fn whole(s: &[u8]) -> Option<u32>
     ensures { result ≡ read_some 0 s.now }
 {
     decimal::read_some(0, s)
 }
 
 // Hertz: a number, with a point in it or not, and k or M behind it or not.
-pub fn hertz(s: &[u8]) -> Number
+#[tactic(auto, using(crate::proofs::Digits::in_unit, crate::proofs::Digits::in_none, crate::proofs::Digits::none_told))]
+pub fn hertz(s: &[u8]) -> Option<u32>
     ensures { result ≡ hertz_of s.now }
 {
-    let n = s.len();
-    if n == 0 {
+    let Some((last, rest)) = s.split_last() else {
         return decimal::pointed(s, 0);
+    };
+    match decimal::unit_of(*last) {
+        Some(zeros) => decimal::pointed(rest, zeros),
+        None => decimal::pointed(s, 0),
     }
-    let last = n - 1;
-    let unit = decimal::unit_of(s[last]);
-    if unit == 0 {
-        return decimal::pointed(s, 0);
-    }
-    decimal::pointed(&s[..last], unit)
 }

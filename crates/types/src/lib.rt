@@ -1,12 +1,21 @@
-// What a request, the chip's state, a plan, a register entry and an answer are. Types only: what is right is said in crates/rules/specs.
+// What a request, the chip's state, a plan, a register entry and a refusal are. Types only: what is right is said in crates/rules/specs. A
+// frequency is a number of hertz, and one that may be unset an Option of it, as in the Rust.
 #![tactic(auto)]
 
-// A frequency in hertz, where one is set: the Rust's Option<u32>.
+ghost use Rattle.std.specs.Prelude.{◌<◌};
+
+// A PLL of the three, by its number from 0: PLL1 is 0.
 #[derive(Clone, Copy)]
-pub enum Hertz {
-    Unset,
-    Hz(u32),
+pub struct PllNumber {
+    pub k: usize,
+    ghost of_three: { k < 3 },
 }
+
+pub const PLL1: PllNumber = PllNumber { k: 0 };
+
+pub const PLL2: PllNumber = PllNumber { k: 1 };
+
+pub const PLL3: PllNumber = PllNumber { k: 2 };
 
 #[derive(Clone, Copy)]
 pub enum Strategy {
@@ -36,28 +45,28 @@ pub enum Mco2Source {
 #[derive(Clone, Copy)]
 pub struct PllRequest {
     pub strategy: Strategy,
-    pub p: Hertz,
-    pub q: Hertz,
-    pub r: Hertz,
+    pub p: Option<u32>,
+    pub q: Option<u32>,
+    pub r: Option<u32>,
 }
 
 // The PLLs stand by their number: PLL1 first. On a chip with two PLLs the third is not looked at.
 #[derive(Clone, Copy)]
 pub struct Request {
-    pub hse: Hertz,
-    pub lse: Hertz,
-    pub audio: Hertz,
-    pub system: Hertz,
-    pub peripheral: Hertz,
-    pub ahb: Hertz,
-    pub apb1: Hertz,
-    pub apb2: Hertz,
-    pub apb3: Hertz,
+    pub hse: Option<u32>,
+    pub lse: Option<u32>,
+    pub audio: Option<u32>,
+    pub system: Option<u32>,
+    pub peripheral: Option<u32>,
+    pub ahb: Option<u32>,
+    pub apb1: Option<u32>,
+    pub apb2: Option<u32>,
+    pub apb3: Option<u32>,
     pub bypass: bool,
     pub mco1source: Mco1Source,
-    pub mco1: Hertz,
+    pub mco1: Option<u32>,
     pub mco2source: Mco2Source,
-    pub mco2: Hertz,
+    pub mco2: Option<u32>,
     pub plls: [PllRequest; 3],
 }
 
@@ -97,6 +106,13 @@ pub struct ChipState {
     pub scale: Scale,
     pub hsion: bool,
     pub hsidiv: Hsidiv,
+}
+
+// A request, and the chip that it is asked of.
+#[derive(Clone, Copy)]
+pub struct Asked {
+    pub request: Request,
+    pub chip: ChipState,
 }
 
 // The listed refusals, in the order of their numbers, which specs/Document01/Refusals of crates/rules gives them.
@@ -141,21 +157,14 @@ pub enum Entry {
     Read(usize),
 }
 
-// An output of a PLL: its divider and its clock in hertz.
+// An output of a PLL that is on: its divider and its clock in hertz.
 #[derive(Clone, Copy)]
-pub enum PllOutput {
-    Off,
-    On(u32, u32),
+pub struct PllOutput {
+    pub divider: u32,
+    pub clock: u32,
 }
 
-// What is added to N: nothing in Integer strategy, FRACN / 8192 in Fractional.
-#[derive(Clone, Copy)]
-pub enum Fraction {
-    Whole,
-    Part(u32),
-}
-
-// What is chosen for a PLL that has an output requested.
+// What is chosen for a PLL that has an output requested. The fraction, FRACN, is added to N as FRACN / 8192: in Fractional strategy alone.
 #[derive(Clone, Copy)]
 pub struct PllSettings {
     pub vcosel: u32,
@@ -164,23 +173,11 @@ pub struct PllSettings {
     pub reference: u32,
     pub rge: u32,
     pub n: u32,
-    pub fraction: Fraction,
+    pub fraction: Option<u32>,
     pub vco: u32,
-    pub p: PllOutput,
-    pub q: PllOutput,
-    pub r: PllOutput,
-}
-
-#[derive(Clone, Copy)]
-pub enum Pll {
-    Idle,
-    Runs(PllSettings),
-}
-
-// One PLL of a plan.
-#[derive(Clone, Copy)]
-pub struct PllPlan {
-    pub pll: Pll,
+    pub p: Option<PllOutput>,
+    pub q: Option<PllOutput>,
+    pub r: Option<PllOutput>,
 }
 
 // A bus: its divisor and its clock in hertz.
@@ -203,7 +200,7 @@ pub struct Buses {
 #[derive(Clone, Copy)]
 pub struct Mco {
     pub pre: u32,
-    pub clock: Hertz,
+    pub clock: Option<u32>,
 }
 
 #[derive(Clone, Copy)]
@@ -237,9 +234,9 @@ pub struct Clocks {
     pub csi: u32,
     pub hsi48: u32,
     pub lsi: u32,
-    pub hse: Hertz,
-    pub lse: Hertz,
-    pub audio: Hertz,
+    pub hse: Option<u32>,
+    pub lse: Option<u32>,
+    pub audio: Option<u32>,
 }
 
 // The codes of the selectors: the PLLs' source, the system clock's, the peripheral clock's and the clock outputs'.
@@ -252,7 +249,7 @@ pub struct Selectors {
     pub mco2sel: u32,
 }
 
-// A whole plan, in parts. The PLLs stand by their number.
+// A whole plan, in parts. The PLLs stand by their number; one that is skipped has no settings.
 #[derive(Clone, Copy)]
 pub struct Plan {
     pub clocks: Clocks,
@@ -262,71 +259,7 @@ pub struct Plan {
     pub selectors: Selectors,
     pub bypass: bool,
     pub three: bool,
-    pub plls: [PllPlan; 3],
-}
-
-#[derive(Clone, Copy)]
-pub enum Answer {
-    Accepted,
-    Refused(Refusal),
-}
-
-// The answer to a request. Beside a refusal stands the blank plan.
-#[derive(Clone, Copy)]
-pub struct Planned {
-    pub answer: Answer,
-    pub plan: Plan,
-}
-
-// What a step answers: its value, or the refusal. specs/Answers of crates/rules reads each as a result of the rules.
-#[derive(Clone, Copy)]
-pub enum PllAnswer {
-    Planned(Pll),
-    Refused(Refusal),
-}
-
-#[derive(Clone, Copy)]
-pub enum BusAnswer {
-    Divided(Bus),
-    Refused(Refusal),
-}
-
-#[derive(Clone, Copy)]
-pub enum BusesAnswer {
-    Divided(Buses),
-    Refused(Refusal),
-}
-
-#[derive(Clone, Copy)]
-pub enum InputAnswer {
-    Clock(u32),
-    Refused(Refusal),
-}
-
-#[derive(Clone, Copy)]
-pub enum McoAnswer {
-    Prescaled(Mco),
-    Refused(Refusal),
-}
-
-#[derive(Clone, Copy)]
-pub enum McosAnswer {
-    Prescaled(Mcos),
-    Refused(Refusal),
-}
-
-// What the search for the reference divider M finds.
-#[derive(Clone, Copy)]
-pub enum FoundM {
-    Nothing,
-    M(u32),
-}
-
-// What the FRACN step gives.
-#[derive(Clone, Copy)]
-pub enum Fracn {
-    Value(u16),
-    OutOfRange,
+    pub plls: [Option<PllSettings>; 3],
 }
 
 // What a walk shows: an entry to carry out, the end of the list, or the refusal that ended it.
@@ -350,9 +283,9 @@ pub enum ResetReason {
     Unknown(u32),
 }
 
-// The reason with the word to write back, or a refusal.
+// The reason, and the word to write back, which clears the flags.
 #[derive(Clone, Copy)]
-pub enum ResetAnswer {
-    Refused(Refusal),
-    Reason(ResetReason, u32),
+pub struct Reset {
+    pub reason: ResetReason,
+    pub write_back: u32,
 }

@@ -11,13 +11,12 @@ use std::fs::File;
 // Record after record, as many as the file says.
 fn main(rt: HostRuntime) -> std::io::Result<()> {
     let mut file = File::open(&rt, "answers.bin")?;
-    let mut t = [0u64; 9];
+    let mut t = tally::fresh();
     let count = input::u32le(&mut file)?;
     for k in 0..count {
         record::replay(&mut file, k, &mut t)?;
     }
-    t[7] = count as u64;
-    t[8] = input::goes_on(&mut file)? as u64;
-    tally::show(&t);
+    let more = input::goes_on(&mut file)?;
+    t.show(count, more);
     Ok(())
 }

@@ -1,28 +1,27 @@
 // One record: a request, its chip and the Rust's answer, against the planner's.
-use crate::input::{byte, read_full, u16le, u32le};
-use crate::tally;
+use crate::input::{byte, u16le, u32le};
+use crate::tally::Tally;
 use std::fs::File;
-use types::{Answer, Chip, Planned};
+use std::io::Read;
+use types::{Chip, Plan, Refusal};
 
-pub fn replay(file: &mut File, k: u32, t: &mut [u64; 9]) -> std::io::Result<()> {
+pub fn replay(file: &mut File, k: u32, t: &mut Tally) -> std::io::Result<()> {
     let kind = byte(file)?;
     let did = byte(file)?;
     let rust = byte(file)?;
     let entries = byte(file)?;
     let length = byte(file)?;
     let x = planned(file, length)?;
-    let planner = number(x);
-    if same(file, x, did, entries)? {
-        if rust == planner {
-            tally::agrees(t, did, entries);
-            return Ok(());
-        }
+    let planner = refusal::code_of(&x);
+    if same(file, x, did, entries)? && rust == planner {
+        t.agrees(did, entries);
+    } else {
+        t.differs(k, kind, rust, planner);
     }
-    tally::differs(t, k, kind, rust, planner);
     Ok(())
 }
 
-fn planned(file: &mut File, length: u32) -> std::io::Result<Planned> {
+fn planned(file: &mut File, length: u32) -> std::io::Result<Result<Plan, Refusal>> {
     let chip = Chip {
         plls: byte(file)?,
         odd: [byte(file)?, byte(file)?, byte(file)?],
@@ -30,41 +29,36 @@ fn planned(file: &mut File, length: u32) -> std::io::Result<Planned> {
         hsion: byte(file)?,
         hsidiv: byte(file)?,
     };
-    let mut request: [u8; 128] = [0; 128];
-    read_full(file, &mut request)?;
-    let n = io::count(length as isize, &request);
+    let mut request = [0u8; 128];
+    file.read_exact(&mut request)?;
+    let n = (length as usize).min(request.len());
     Ok(rcc::plan(&request[..n], chip))
 }
 
-// 0, or the refusal's number.
-fn number(x: Planned) -> u32 {
-    let answer = x.answer;
-    match answer {
-        Answer::Accepted => 0,
-        Answer::Refused(n) => refusal::number_of(n),
-    }
-}
-
 // A plan's clocks and divisors, the 55 words of a report, stand behind the request, and then its entries.
-fn same(file: &mut File, x: Planned, did: u32, entries: u32) -> std::io::Result<bool> {
+fn same(
+    file: &mut File,
+    x: Result<Plan, Refusal>,
+    did: u32,
+    entries: u32,
+) -> std::io::Result<bool> {
     if did != 0 {
         return Ok(true);
     }
     let mut words = [0u32; 2304];
-    let plan = x.plan;
-    report::store_report(plan, &mut words);
+    if let Ok(plan) = &x {
+        report::store_report(plan, &mut words);
+    }
     let clocks = wide(file, &words)?;
-    listing::store_list(x, &mut words);
+    listing::store_list(&x, &mut words);
     let list = narrow(file, &words, entries)?;
     Ok(clocks && list)
 }
 
 fn wide(file: &mut File, words: &[u32; 2304]) -> std::io::Result<bool> {
     let mut same = true;
-    for k in 0..55 {
-        if words[k] != u32le(file)? {
-            same = false;
-        }
+    for word in &words[..55] {
+        same &= *word == u32le(file)?;
     }
     Ok(same)
 }
@@ -73,10 +67,8 @@ fn wide(file: &mut File, words: &[u32; 2304]) -> std::io::Result<bool> {
 fn narrow(file: &mut File, words: &[u32; 2304], entries: u32) -> std::io::Result<bool> {
     let mut same = words[0] == entries;
     let n = (entries % 256) as usize * 9;
-    for k in 0..n {
-        if words[k + 1] != u16le(file)? {
-            same = false;
-        }
+    for word in &words[1..1 + n] {
+        same &= *word == u16le(file)?;
     }
     Ok(same)
 }

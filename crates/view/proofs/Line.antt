@@ -1,4 +1,5 @@
 -- A line from its parts.
+use Rattle.std.specs.Prelude.{Option, Some, None}
 use mathlib.Core.Path.{◌≡◌, refl}
 use mathlib.Core.Bool.{true, false, not}
 use mathlib.Core.List.{List, [], ◌∷◌}
@@ -7,26 +8,24 @@ use lib.Dec.{eqb}
 use lib.ListN.{get_or, replicate}
 use borrow.Author.Tests.{le-leb, lt-leb}
 use Rattle.laws.proofs.Tests.{by_test}
-use Rattle.types.specs.declared.Hertz.{Hertz}
 use Rattle.rules.specs.Document01.Entries.{bit}
 use Rattle.rules.specs.Manual.Tree.{word}
 use Rattle.rules.specs.Manual.Tree.{fed_by}
 use Rattle.exact.specs.Exact.{path_by, reading_of}
-use Rattle.exact.specs.declared.Reading.{Reading}
-use Rattle.exact.specs.declared.Reading.TheVariants.{Nothing, Exactly}
+use Rattle.exact.specs.declared.Exact.{Exact}
 use Rattle.view.specs.View.{from_of, divisor_of, exact_parts, line_of}
 
 -- five numbers, one by one
 abbrev five : List ℕ → List ℕ
 five e = get_or e 0 0 ∷ get_or e 1 0 ∷ get_or e 2 0 ∷ get_or e 3 0 ∷ get_or e 4 0 ∷ []
 
-all_five : (known h : ℕ) (x : Reading) → five (exact_parts known h x) ≡ exact_parts known h x
-all_five known h Nothing = refl
-all_five known h (Exactly n d) = by_test (eqb d 0) (λ (t : eqb d 0 ≡ true). rw t) (λ (f : eqb d 0 ≡ false). rw f)
+all_five : (known h : ℕ) (x : Option Exact) → five (exact_parts known h x) ≡ exact_parts known h x
+all_five known h None = refl
+all_five known h (Some x) = let d = x.denominator in by_test (eqb d 0) (λ (t : eqb d 0 ≡ true). rw t) (λ (f : eqb d 0 ≡ false). rw f)
 
-module _ (report bank : List ℕ) (hse : Hertz) (k : ℕ) where
+module _ (report bank : List ℕ) (hse : Option ℕ) (k : ℕ) where
   pub line :
-      k ≤ 25 → (there hertz from known divisor : ℕ) (x : Reading) (e : List ℕ) → there ≡ word report (2 * k) → hertz ≡ word report (2 * k + 1) →
+      k ≤ 25 → (there hertz from known divisor : ℕ) (x : Option Exact) (e : List ℕ) → there ≡ word report (2 * k) → hertz ≡ word report (2 * k + 1) →
       from ≡ from_of bank k → known ≡ bit (not (eqb from 29)) → divisor ≡ divisor_of bank k → x ≡ reading_of (path_by bank (fed_by hse) k) →
       e ≡ exact_parts known hertz x → k ∷ there ∷ hertz ∷ from ∷ known ∷ divisor ∷ five e ≡ line_of report bank hse k
   unfolding line_of
@@ -36,3 +35,5 @@ module _ (report bank : List ℕ) (hse : Hertz) (k : ℕ) where
   pub no_line : 25 < k → replicate 11 0 ≡ line_of report bank hse k
   unfolding line_of
   no_line h = rw (lt-leb k 25 h)
+
+pub ruleset lines = (line, no_line)

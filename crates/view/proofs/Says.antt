@@ -11,8 +11,8 @@ use Rattle.rules.specs.Document01.Fields
 use Rattle.rules.specs.Manual.Path.{PllName, pll1, pll2, pll3}
 use Rattle.rules.specs.Manual.Tree
 use Rattle.rules.specs.Manual.Tree.{Oscillator, Chain, none, Output, P, Q, R, word, pll_word, number, enable, gated, over, among, timer_by, path_of}
-use Rattle.exact.specs.Exact.{clocks_by, path_by}
-use Rattle.view.specs.View.{sw_clock, per_clock, mco1_clock, mco2_clock, timer_divisor, from_of, divisor_of}
+use Rattle.exact.specs.Exact.{clocks_by, path_by, timer_divisor}
+use Rattle.view.specs.View.{sw_clock, per_clock, mco1_clock, mco2_clock, from_of, divisor_of}
 
 -- the place of an output in a report
 abbrev pub output_at : PllName → Output → ℕ

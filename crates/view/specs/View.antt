@@ -1,13 +1,11 @@
 -- A clock of a plan as the numbers of one line: docs/CODES.md, The page of a plan.
-use Rattle.std.specs.Prelude.{cond, not, ◌&&◌, List, [], ◌∷◌, ℕ, ◌+◌, ◌-◌, ◌*◌, ◌/◌, ◌%◌, leb, eqb, get_or, replicate}
-use Rattle.types.specs.declared.Hertz.{Hertz}
+use Rattle.std.specs.Prelude.{cond, not, ◌&&◌, List, [], ◌∷◌, ℕ, ◌+◌, ◌-◌, ◌*◌, ◌/◌, ◌%◌, leb, eqb, get_or, replicate, Option, Some, None}
 use Rattle.rules.specs.Document01.Fields
 use Rattle.rules.specs.Document01.Entries.{bit}
-use Rattle.rules.specs.Manual.Tree.{word, among}
+use Rattle.rules.specs.Manual.Tree.{word}
 use Rattle.rules.specs.Manual.Tree.{fed_by}
-use Rattle.exact.specs.Exact.{path_by, reading_of}
-use Rattle.exact.specs.declared.Reading.{Reading}
-use Rattle.exact.specs.declared.Reading.TheVariants.{Nothing, Exactly}
+use Rattle.exact.specs.Exact.{path_by, reading_of, timer_divisor}
+use Rattle.exact.specs.declared.Exact.{Exact}
 
 -- ---- where a clock comes from: the number of a clock, 26 to 28 for the VCOs, 29 for nothing
 -- SW: HSI, CSI, HSE, PLL1 P (document 01, The clock tree)
@@ -39,13 +37,6 @@ from_of b k =
     (cond (eqb k 16) (mco2_clock (word b Fields.MCO2SEL)) (cond (leb k 25) (26 + (k - 17) / 3) 29)))))))
 
 -- ---- what divides it; 0 for nothing
--- a timer's one division, by TIMPRE and PPRE; 0 for a PPRE other than 1, 2, 4, 8, 16
-abbrev pub timer_divisor : (timpre ppre : ℕ) → ℕ
-timer_divisor t p =
-    cond (eqb t 0)
-    (cond (among (1 ∷ 2 ∷ []) p) 1 (cond (among (4 ∷ 8 ∷ 16 ∷ []) p) (p / 2) 0))
-    (cond (among (1 ∷ 2 ∷ 4 ∷ []) p) 1 (cond (among (8 ∷ 16 ∷ []) p) (p / 4) 0))
-
 -- HPRE and the PPREs stand one behind the other; P, Q and R of a PLL two words apart, as dividers less 1
 unfoldable pub divisor_of : (bank : List ℕ) → (k : ℕ) → ℕ
 divisor_of b k =
@@ -63,16 +54,19 @@ no_parts known = 0 ∷ 0 ∷ 0 ∷ 0 ∷ known ∷ []
 
 -- the exact fraction beside the hertz: whether it differs, whole hertz, what is left over, the denominator, and whether there should be one
 -- and is none
-abbrev pub exact_parts : (known hertz : ℕ) → Reading → List ℕ
-exact_parts known h Nothing = no_parts known
-exact_parts known h (Exactly n d) = cond (eqb d 0) (no_parts known) (bit (not (eqb (n % d) 0 && eqb (n / d) h)) ∷ n / d ∷ n % d ∷ d ∷ 0 ∷ [])
+abbrev pub exact_parts : (known hertz : ℕ) → Option Exact → List ℕ
+exact_parts known h None = no_parts known
+exact_parts known h (Some x) =
+    cond (eqb x.denominator 0) (no_parts known)
+    (bit (not (eqb (x.numerator % x.denominator) 0 && eqb (x.numerator / x.denominator) h))
+    ∷ x.numerator / x.denominator ∷ x.numerator % x.denominator ∷ x.denominator ∷ 0 ∷ [])
 
 -- clock k: its number, whether it is reported, its hertz, where it comes from and whether from anywhere, what divides it; then the parts
-abbrev pub clock_line : (report bank : List ℕ) → (hse : Hertz) → (k : ℕ) → List ℕ
+abbrev pub clock_line : (report bank : List ℕ) → (hse : Option ℕ) → (k : ℕ) → List ℕ
 clock_line report bank hse k =
     k ∷ word report (2 * k) ∷ word report (2 * k + 1) ∷ from_of bank k ∷ bit (not (eqb (from_of bank k) 29)) ∷ divisor_of bank k
     ∷ exact_parts (bit (not (eqb (from_of bank k) 29))) (word report (2 * k + 1)) (reading_of (path_by bank (fed_by hse) k))
 
 -- of the 26 that there are
-unfoldable pub line_of : (report bank : List ℕ) → (hse : Hertz) → (k : ℕ) → List ℕ
+unfoldable pub line_of : (report bank : List ℕ) → (hse : Option ℕ) → (k : ℕ) → List ℕ
 line_of report bank hse k = cond (leb k 25) (clock_line report bank hse k) (replicate 11 0)

@@ -1,39 +1,39 @@
 // Bench settings A and C of document 01, planned.
 use types::{
-    ChipState, Hertz, Hsidiv, Mco1Source, Mco2Source, Planned, PllRequest, Request, Scale, Strategy,
+    ChipState, Hsidiv, Mco1Source, Mco2Source, Plan, PllRequest, Refusal, Request, Scale, Strategy,
 };
 
-fn asked(strategy: Strategy, p: Hertz) -> PllRequest {
+fn asked(strategy: Strategy, p: Option<u32>) -> PllRequest {
     PllRequest {
         strategy,
         p,
-        q: Hertz::Unset,
-        r: Hertz::Unset,
+        q: None,
+        r: None,
     }
 }
 
-fn request(system: Hertz, pll2: PllRequest) -> Request {
-    let none = asked(Strategy::Integer, Hertz::Unset);
+fn request(system: Option<u32>, pll2: PllRequest) -> Request {
+    let none = asked(Strategy::Integer, None);
     Request {
-        hse: Hertz::Unset,
-        lse: Hertz::Unset,
-        audio: Hertz::Unset,
+        hse: None,
+        lse: None,
+        audio: None,
         system,
-        peripheral: Hertz::Unset,
-        ahb: Hertz::Unset,
-        apb1: Hertz::Unset,
-        apb2: Hertz::Unset,
-        apb3: Hertz::Unset,
+        peripheral: None,
+        ahb: None,
+        apb1: None,
+        apb2: None,
+        apb3: None,
         bypass: false,
         mco1source: Mco1Source::Hsi,
-        mco1: Hertz::Unset,
+        mco1: None,
         mco2source: Mco2Source::Sysclk,
-        mco2: Hertz::Unset,
+        mco2: None,
         plls: [none, pll2, none],
     }
 }
 
-fn planned(q: Request, odd: bool) -> Planned {
+fn planned(q: Request, odd: bool) -> Result<Plan, Refusal> {
     let c = ChipState {
         three: false,
         odd: [odd; 3],
@@ -41,17 +41,17 @@ fn planned(q: Request, odd: bool) -> Planned {
         hsion: true,
         hsidiv: Hsidiv::Div2,
     };
-    freeze::answer_to(q, c)
+    freeze::answer_to(&q, &c)
 }
 
 // Odd P forbidden, system 250 MHz.
-pub fn setting_a() -> Planned {
-    let none = asked(Strategy::Integer, Hertz::Unset);
-    planned(request(Hertz::Hz(250_000_000), none), false)
+pub fn setting_a() -> Result<Plan, Refusal> {
+    let none = asked(Strategy::Integer, None);
+    planned(request(Some(250_000_000), none), false)
 }
 
 // PLL2 Fractional, P 12,288,000.
-pub fn setting_c() -> Planned {
-    let pll2 = asked(Strategy::Fractional, Hertz::Hz(12_288_000));
-    planned(request(Hertz::Unset, pll2), true)
+pub fn setting_c() -> Result<Plan, Refusal> {
+    let pll2 = asked(Strategy::Fractional, Some(12_288_000));
+    planned(request(None, pll2), true)
 }

@@ -1,6 +1,5 @@
 // An entry in words.
-use crate::names::field;
-use crate::print::{named, say};
+use print::{named, say};
 use types::Entry;
 
 pub fn show(e: Entry) {
@@ -22,6 +21,20 @@ pub fn show(e: Entry) {
             say(b"read ");
             field(f)
         }
+    }
+}
+
+// A field's name, with a blank for its point.
+fn field(f: usize) {
+    let mut name = [0u8; 12];
+    let n = template::fill(
+        b"{0#}",
+        &print::FIELDS,
+        &[(f as u64).saturating_add(1)],
+        &mut name,
+    );
+    for b in &name[..n] {
+        say(&[if *b == b'.' { b' ' } else { *b }]);
     }
 }
 

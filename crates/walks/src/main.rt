@@ -5,8 +5,6 @@
 mod ask;
 mod chip;
 mod entry;
-mod names;
-mod print;
 mod reasons;
 mod register;
 mod voltage;

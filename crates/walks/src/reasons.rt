@@ -1,10 +1,12 @@
 // The reset reason of every set of the six flags, on two PLLs.
-use crate::print::{named, say};
-use types::{ResetAnswer, ResetReason};
+use print::{named, say};
+use types::{Refusal, Reset, ResetReason};
+
+// The flags, from bit 26 of the register on.
+const FLAGS: [&str; 6] = [" PIN", " BOR", " SFT", " IWDG", " WWDG", " LPWR"];
 
 pub fn all() {
-    let sets: u32 = 64;
-    for set in 0..sets {
+    for set in 0..64 {
         one(set);
     }
 }
@@ -14,34 +16,23 @@ fn one(set: u32) {
     if set == 0 {
         say(b" none");
     }
-    flag(set, 1, b" PIN");
-    flag(set, 2, b" BOR");
-    flag(set, 4, b" SFT");
-    flag(set, 8, b" IWDG");
-    flag(set, 16, b" WWDG");
-    flag(set, 32, b" LPWR");
-    say(b": ");
-    if set < 64 {
-        answer(reset_reason::reset_reason(2, set * 67_108_864));
+    for (k, name) in FLAGS.iter().enumerate() {
+        if set >> k & 1 == 1 {
+            say(name.as_bytes());
+        }
     }
+    say(b": ");
+    answer(reset_reason::reset_reason(2, set << 26));
     say(b"\n");
 }
 
-fn flag(set: u32, bit: u32, name: &[u8]) {
-    if bit != 0 {
-        if set / bit % 2 == 1 {
-            say(name);
-        }
-    }
-}
-
-fn answer(x: ResetAnswer) {
+fn answer(x: Result<Reset, Refusal>) {
     match x {
-        ResetAnswer::Refused(n) => named(b"refused ", refusal::number_of(n)),
-        ResetAnswer::Reason(r, back) => {
-            reason(r);
-            named(b", write back ", back)
+        Ok(r) => {
+            reason(r.reason);
+            named(b", write back ", r.write_back)
         }
+        Err(n) => named(b"refused ", refusal::number_of(n)),
     }
 }
 

@@ -1,19 +1,17 @@
 // The voltage walk from each scale to each on the simulated chip, a line for each.
-use crate::print::{named, say};
 use crate::{chip, entry};
+use print::{named, say};
 use pwr::VoltageWalk;
 use types::{Entry, Shown};
 
 pub fn all() {
-    let scales: u32 = 4;
-    for target in 0..scales {
+    for target in 0..4 {
         from_each(target);
     }
 }
 
 fn from_each(target: u32) {
-    let scales: u32 = 4;
-    for actual in 0..scales {
+    for actual in 0..4 {
         named(b"   Scale", actual);
         named(b" to Scale", target);
         walk(target, actual);
@@ -24,24 +22,20 @@ fn from_each(target: u32) {
 // Waits come up at once here: the register walk shows how one is shown again.
 fn walk(target: u32, actual: u32) {
     let mut w = pwr::fresh(target);
-    let turns: usize = 5;
-    for _ in 0..turns {
-        w = one(w, actual);
+    for _ in 0..5 {
+        one(&mut w, actual);
     }
 }
 
-fn one(w: VoltageWalk, actual: u32) -> VoltageWalk {
-    match pwr::shows(w) {
+fn one(w: &mut VoltageWalk, actual: u32) {
+    match pwr::shows(*w) {
         Shown::Next(e) => {
             say(b"; ");
             entry::show(e);
-            pwr::stepped(w, read(e, actual), 0)
+            pwr::step(w, read(e, actual), 0);
         }
-        Shown::Finished => w,
-        Shown::Stopped(n) => {
-            named(b": refused ", refusal::number_of(n));
-            w
-        }
+        Shown::Finished => {}
+        Shown::Stopped(n) => named(b": refused ", refusal::number_of(n)),
     }
 }
 
@@ -49,9 +43,6 @@ fn one(w: VoltageWalk, actual: u32) -> VoltageWalk {
 fn read(e: Entry, actual: u32) -> u32 {
     match e {
         Entry::Read(_) => if actual < 4 { 3 - actual } else { 0 },
-        _ => {
-            let r = chip::read(e, 2);
-            r.a
-        }
+        _ => chip::read(e, 2).a,
     }
 }

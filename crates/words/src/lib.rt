@@ -13,42 +13,29 @@ fn field(f: usize) -> u32
     if f < 82 { f as u32 + 1 } else { 0 }
 }
 
-// No field.
-const NONE: usize = 82;
-
-fn nine(
-    kind: u32,
-    f: usize,
-    v: u32,
-    g: usize,
-    w: u32,
-    h: usize,
-    x: u32,
-    k: usize,
-    y: u32,
-) -> [u32; 9]
-    ensures { result ≡ kind ∷ field_word f ∷ v ∷ field_word g ∷ w ∷ field_word h ∷ x ∷ field_word k ∷ y ∷ [] }
-{
-    let a = field(f);
-    let b = field(g);
-    let c = field(h);
-    let d = field(k);
-    [kind, a, v, b, w, c, x, d, y]
-}
-
 // The kind, then up to four times the field and its value.
 pub fn entry_words(e: Entry) -> [u32; 9]
     ensures { result ≡ entry_words e }
 {
     match e {
-        Entry::Set(f, v) => nine(1, f, v, NONE, 0, NONE, 0, NONE, 0),
-        Entry::Set2(f, v, g, w) => nine(1, f, v, g, w, NONE, 0, NONE, 0),
-        Entry::Set3(f, v, g, w, h, x) => nine(1, f, v, g, w, h, x, NONE, 0),
-        Entry::Set4(f, v, g, w, h, x, k, y) => nine(1, f, v, g, w, h, x, k, y),
-        Entry::Wait(f, v) => nine(2, f, v, NONE, 0, NONE, 0, NONE, 0),
-        Entry::Wait2(f, v, g, w) => nine(2, f, v, g, w, NONE, 0, NONE, 0),
-        Entry::Check(f, v) => nine(3, f, v, NONE, 0, NONE, 0, NONE, 0),
-        Entry::Read(f) => nine(4, f, 0, NONE, 0, NONE, 0, NONE, 0),
+        Entry::Set(f, v) => [1, field(f), v, 0, 0, 0, 0, 0, 0],
+        Entry::Set2(f, v, g, w) => [1, field(f), v, field(g), w, 0, 0, 0, 0],
+        Entry::Set3(f, v, g, w, h, x) => [1, field(f), v, field(g), w, field(h), x, 0, 0],
+        Entry::Set4(f, v, g, w, h, x, k, y) => [
+            1,
+            field(f),
+            v,
+            field(g),
+            w,
+            field(h),
+            x,
+            field(k),
+            y,
+        ],
+        Entry::Wait(f, v) => [2, field(f), v, 0, 0, 0, 0, 0, 0],
+        Entry::Wait2(f, v, g, w) => [2, field(f), v, field(g), w, 0, 0, 0, 0],
+        Entry::Check(f, v) => [3, field(f), v, 0, 0, 0, 0, 0, 0],
+        Entry::Read(f) => [4, field(f), 0, 0, 0, 0, 0, 0, 0],
     }
 }
 
@@ -59,10 +46,7 @@ pub fn shown_words(s: Shown) -> [u32; 9]
     match s {
         Shown::Next(e) => entry_words(e),
         Shown::Finished => [0; 9],
-        Shown::Stopped(n) => {
-            let number = refusal::number_of(n);
-            [5, number, 0, 0, 0, 0, 0, 0, 0]
-        }
+        Shown::Stopped(n) => [5, refusal::number_of(n), 0, 0, 0, 0, 0, 0, 0],
     }
 }
 
@@ -88,5 +72,5 @@ pub fn shown_count(reads: usize, room: usize) -> usize
 {
     let steps = reads / 2 + 1;
     let held = room / 9;
-    if held < steps { held } else { steps }
+    held.min(steps)
 }

@@ -1,28 +1,35 @@
 -- `ask::take_all` meets its contract.
-use native.Mathlib.Omega.{arith}
-use Rattle.ask.proofs.Taking.{begins, ends, passes, some, inside, goes_on, stops}
+use mathlib.Core.Path.{◌≡◌, sym, ◌∙◌}
+use Prim.Native.Nat.{◌+◌}
+use Rattle.std.proofs.Common.{rules}
+use Rattle.ask.specs.All.{at_word}
+use Rattle.ask.proofs.Taking.{begins, ends, passes, goes_on, stops}
 use Rattle.ask.proofs.take_all.Goals as goal
 
 pub loop-at-init : goal.loop-at-init
 loop-at-init c = begins c.args.sheet.now c.args.words.now
 
-pub loop-at-preserved-then-words-at-le32 : goal.loop-at-preserved-then-words-at-le32
-loop-at-preserved-then-words-at-le32 c = passes _ _ _ _ c.loop-at.invariant c.loop-at-test.true c.if-words-at-le32.true
-
-pub slice_bounds-take-end : goal.slice_bounds-take-end
-slice_bounds-take-end c = inside _ _ _ _ c.loop-at.invariant c.loop-at-test.true c.if-words-at-le32.false c.end_of-to.ensures
-
-pub returns-then-wrong-ne0-clause-taken : goal.returns-then-wrong-ne0-clause-taken
-returns-then-wrong-ne0-clause-taken c = (stops _ _ _ _ c.loop-at.invariant c.loop-at-test.true c.if-words-at-le32.false c.end_of-to.ensures c.take-wrong.ensures.wrong c.take-wrong.ensures.sheet c.if-wrong-ne0.true).0
-
-pub returns-then-wrong-ne0-clause-sheet : goal.returns-then-wrong-ne0-clause-sheet
-returns-then-wrong-ne0-clause-sheet c = (stops _ _ _ _ c.loop-at.invariant c.loop-at-test.true c.if-words-at-le32.false c.end_of-to.ensures c.take-wrong.ensures.wrong c.take-wrong.ensures.sheet c.if-wrong-ne0.true).1
-
-pub loop-at-smaller : goal.loop-at-smaller
-loop-at-smaller c = let h = some _ _ _ _ c.loop-at.invariant c.loop-at-test.true c.if-words-at-le32.false c.end_of-to.ensures in let k = inside _ _ _ _ c.loop-at.invariant c.loop-at-test.true c.if-words-at-le32.false c.end_of-to.ensures in omega arith
+pub loop-at-preserved-then-is_blank : goal.loop-at-preserved-then-is_blank
+loop-at-preserved-then-is_blank c = passes _ _ _ _ c.loop-at.invariant c.loop-at-test.true (sym c.is_blank.ensures ∙ c.if-is_blank.true)
 
 pub loop-at-preserved : goal.loop-at-preserved
-loop-at-preserved c = goes_on _ _ _ _ c.loop-at.invariant c.loop-at-test.true c.if-words-at-le32.false c.end_of-to.ensures c.take-wrong.ensures.wrong c.take-wrong.ensures.sheet c.if-wrong-ne0.false
+loop-at-preserved c =
+    let l = c.loop-at in
+    let m : c.map_err.result ≡ at_word l.at (l.at + c.filled.result) c.take.result = search rules in
+    goes_on _ _ _ _ l.invariant c.loop-at-test.true (sym c.is_blank.ensures ∙ c.if-is_blank.false) c.filled.ensures c.take.ensures.wrong c.take.ensures.sheet m _ c.in_ok-map_err.was
+
+pub returns-in_err-map_err-clause-taken : goal.returns-in_err-map_err-clause-taken
+returns-in_err-map_err-clause-taken c =
+    let l = c.loop-at in
+    let m : c.map_err.result ≡ at_word l.at (l.at + c.filled.result) c.take.result = search rules in
+    let f : c.from_residual.result ≡ c.map_err.result = search rules in
+    f ∙ (stops _ _ _ _ l.invariant c.loop-at-test.true (sym c.is_blank.ensures ∙ c.if-is_blank.false) c.filled.ensures c.take.ensures.wrong c.take.ensures.sheet m _ c.in_err-map_err.was).0
+
+pub returns-in_err-map_err-clause-sheet : goal.returns-in_err-map_err-clause-sheet
+returns-in_err-map_err-clause-sheet c =
+    let l = c.loop-at in
+    let m : c.map_err.result ≡ at_word l.at (l.at + c.filled.result) c.take.result = search rules in
+    (stops _ _ _ _ l.invariant c.loop-at-test.true (sym c.is_blank.ensures ∙ c.if-is_blank.false) c.filled.ensures c.take.ensures.wrong c.take.ensures.sheet m _ c.in_err-map_err.was).1
 
 pub returns-clause-taken : goal.returns-clause-taken
 returns-clause-taken c = (ends _ _ _ _ c.loop-at.invariant c.loop-at-test.false).0

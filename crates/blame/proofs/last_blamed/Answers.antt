@@ -6,15 +6,15 @@ use Rattle.blame.proofs.last_blamed.Goals as goal
 
 pub loop-i-init : goal.loop-i-init
 loop-i-init c =
-    let e = c.start_for-i.ensures ∙ ap start_for c.refusal_of-number.ensures in
-    (c.refusal_of-number.ensures, whole _ _ _ e, starts _ _ _ e)
+    let e = c.start_for-i.ensures ∙ ap start_for c.refusal_on-number.ensures in
+    (c.refusal_on-number.ensures, whole _ _ _ e, starts _ _ _ e)
 
-pub returns-then-refusal_of-number : goal.returns-then-refusal_of-number
+pub returns-then-refusal_on-number : goal.returns-then-refusal_on-number
 unfolding last_blamed_of
-returns-then-refusal_of-number c =
+returns-then-refusal_on-number c =
     let l = c.loop-i in
     let u = less _ _ l.i _ _ _ l.invariant.2.from l.invariant.1 c.key_at-k.ensures c.without-less.ensures in
-    found _ _ _ l.invariant.0 l.i l.invariant.2 c.loop-i-test.true _ _ _ c.key_at-k.ensures u c.refusal_of.ensures c.if-refusal_of-number.true
+    found _ _ _ l.invariant.0 l.i l.invariant.2 c.loop-i-test.true _ _ _ c.key_at-k.ensures u c.refusal_on.ensures c.if-refusal_on-number.true
 
 pub loop-i-preserved : goal.loop-i-preserved
 loop-i-preserved c =
@@ -22,7 +22,7 @@ loop-i-preserved c =
     let u = less _ _ l.i _ _ _ l.invariant.2.from l.invariant.1 c.key_at-k.ensures c.without-less.ensures in (
       l.invariant.0,
       u,
-      goes_on _ _ _ l.invariant.0 l.i l.invariant.2 c.loop-i-test.true _ _ _ c.key_at-k.ensures u c.refusal_of.ensures c.if-refusal_of-number.false,
+      goes_on _ _ _ l.invariant.0 l.i l.invariant.2 c.loop-i-test.true _ _ _ c.key_at-k.ensures u c.refusal_on.ensures c.if-refusal_on-number.false,
     )
 
 pub returns : goal.returns

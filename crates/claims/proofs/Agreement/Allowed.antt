@@ -1,4 +1,5 @@
 -- A plan sets the P of each PLL to values that the manual allows.
+use Rattle.std.specs.Prelude.{Option, Some, None}
 use mathlib.Core.Path.{◌≡◌, refl, subst}
 use mathlib.Core.Bool.{Bool, true, false, cond, ◌&&◌}
 use lib.Dec.{leb}
@@ -9,16 +10,9 @@ use Prim.Native.Nat.{ℕ, ◌-◌, ◌≤◌, ◌<◌}
 use native.Mathlib.Omega.{arith}
 use Rattle.types.specs.declared.Entry.{Entry}
 use Rattle.types.specs.declared.Entry.TheVariants.{Set, Set2, Set3, Set4, Wait, Wait2, Check, Read}
-use Rattle.types.specs.declared.Hertz.{Hertz}
-use Rattle.types.specs.declared.Hertz.TheVariants.{Unset, Hz}
 use Rattle.types.specs.declared.PllRequest.{PllRequest}
 use Rattle.types.specs.declared.PllOutput.{PllOutput}
-use Rattle.types.specs.declared.PllOutput.TheVariants.{Off, On}
-use Rattle.types.specs.declared.Fraction.{Fraction}
-use Rattle.types.specs.declared.Fraction.TheVariants.{Whole, Part}
 use Rattle.types.specs.declared.PllSettings.{PllSettings}
-use Rattle.types.specs.declared.Pll.{Pll}
-use Rattle.types.specs.declared.Pll.TheVariants.{Idle, Runs}
 use Rattle.types.specs.declared.Request.{Request}
 use Rattle.types.specs.declared.ChipState.{ChipState}
 use Rattle.types.specs.declared.Plan.{Plan}
@@ -88,28 +82,28 @@ module _ (c : ChipState) where
   base_fine : (k : ℕ) (s : PllSettings) → All c (base_entries k s)
   base_fine k s = by (λ j l e. absurd (omega arith), (λ j l e. absurd (omega arith), (λ j l e. absurd (omega arith), (λ j l e. absurd (omega arith), tt))))
 
-  fraction_fine : (k : ℕ) (f : Fraction) → All c (fraction_entries k f)
-  fraction_fine k Whole = by tt
-  fraction_fine k (Part f) = by (λ j l e. absurd (omega arith), (λ j l e. absurd (omega arith), (λ j l e. absurd (omega arith), tt)))
+  fraction_fine : (k : ℕ) (f : Option ℕ) → All c (fraction_entries k f)
+  fraction_fine k None = by tt
+  fraction_fine k (Some f) = by (λ j l e. absurd (omega arith), (λ j l e. absurd (omega arith), (λ j l e. absurd (omega arith), tt)))
 
-  p_fine : (k : ℕ) (o : PllOutput) → LegalP (odd_at c k) o → All c (output_entries (of_pll k Fields.P) (of_pll k Fields.PEN) o)
-  p_fine k Off h = by (λ j l e. absurd (omega arith), tt)
-  p_fine k (On d x) h = by (λ j l e. let same : k ≡ j = omega arith in subst (λ (i : ℕ). allows_p (odd_at c i) (d - 1) ≡ true) same h, (λ j l e. absurd (omega arith), tt))
+  p_fine : (k : ℕ) (o : Option PllOutput) → LegalP (odd_at c k) o → All c (output_entries (of_pll k Fields.P) (of_pll k Fields.PEN) o)
+  p_fine k None h = by (λ j l e. absurd (omega arith), tt)
+  p_fine k (Some o) h = by (λ j l e. let same : k ≡ j = omega arith in subst (λ (i : ℕ). allows_p (odd_at c i) (o.divider - 1) ≡ true) same h, (λ j l e. absurd (omega arith), tt))
 
-  q_fine : (k : ℕ) (o : PllOutput) → All c (output_entries (of_pll k Fields.Q) (of_pll k Fields.QEN) o)
-  q_fine k Off = by (λ j l e. absurd (omega arith), tt)
-  q_fine k (On d x) = by (λ j l e. absurd (omega arith), (λ j l e. absurd (omega arith), tt))
+  q_fine : (k : ℕ) (o : Option PllOutput) → All c (output_entries (of_pll k Fields.Q) (of_pll k Fields.QEN) o)
+  q_fine k None = by (λ j l e. absurd (omega arith), tt)
+  q_fine k (Some o) = by (λ j l e. absurd (omega arith), (λ j l e. absurd (omega arith), tt))
 
-  r_fine : (k : ℕ) (o : PllOutput) → All c (output_entries (of_pll k Fields.R) (of_pll k Fields.REN) o)
-  r_fine k Off = by (λ j l e. absurd (omega arith), tt)
-  r_fine k (On d x) = by (λ j l e. absurd (omega arith), (λ j l e. absurd (omega arith), tt))
+  r_fine : (k : ℕ) (o : Option PllOutput) → All c (output_entries (of_pll k Fields.R) (of_pll k Fields.REN) o)
+  r_fine k None = by (λ j l e. absurd (omega arith), tt)
+  r_fine k (Some o) = by (λ j l e. absurd (omega arith), (λ j l e. absurd (omega arith), tt))
 
-  setup_fine : (k source : ℕ) (a : PllRequest) (x : Pll) → LegalPll (odd_at c k) source a x → All c (setup_entries k x)
+  setup_fine : (k source : ℕ) (a : PllRequest) (x : Option PllSettings) → LegalPll (odd_at c k) source a x → All c (setup_entries k x)
   unfolding setting_entries
-  setup_fine k source a Idle h = by tt
-  setup_fine k source a (Runs s) h = base_fine k s then fraction_fine k s.fraction then p_fine k s.p h.odd_p then q_fine k s.q then r_fine k s.r
+  setup_fine k source a None h = by tt
+  setup_fine k source a (Some s) h = base_fine k s then fraction_fine k s.fraction then p_fine k s.p h.odd_p then q_fine k s.q then r_fine k s.r
 
-  third_fine : (three : Bool) (source : ℕ) (a : PllRequest) (x : Pll) → LegalThird three (odd_at c 2) source a x → All c (setup_entries 2 x)
+  third_fine : (three : Bool) (source : ℕ) (a : PllRequest) (x : Option PllSettings) → LegalThird three (odd_at c 2) source a x → All c (setup_entries 2 x)
   third_fine true source a x h = setup_fine 2 source a x h
   third_fine false source a x h = rw h (by tt)
 
@@ -130,21 +124,21 @@ module _ (c : ChipState) where
   clocks_fine p =
       by (outside_fine (clock_entries p.waits p.selectors p.mcos) refl)
 
-  hse_fine : (h : Hertz) (b : Bool) → All c (hse_entries h b)
-  hse_fine Unset b = by tt
-  hse_fine (Hz h) b = by (tt, (tt, tt))
+  hse_fine : (h : Option ℕ) (b : Bool) → All c (hse_entries h b)
+  hse_fine None b = by tt
+  hse_fine (Some h) b = by (tt, (tt, tt))
 
   source_fine : (three : Bool) (src : ℕ) → All c (source_entries three src)
   source_fine true src = by (λ j l e. absurd (omega arith), (λ j l e. absurd (omega arith), (λ j l e. absurd (omega arith), tt)))
   source_fine false src = by (λ j l e. absurd (omega arith), (λ j l e. absurd (omega arith), tt))
 
-  start_fine : (k : ℕ) (x : Pll) → All c (start_entries k x)
-  start_fine k Idle = by tt
-  start_fine k (Runs s) = go s.p
+  start_fine : (k : ℕ) (x : Option PllSettings) → All c (start_entries k x)
+  start_fine k None = by tt
+  start_fine k (Some s) = go s.p
     where
-      go : (o : PllOutput) → All c (output_start k o)
-      go Off = by tt
-      go (On d h) = by (λ j l e. absurd (omega arith), (tt, tt))
+      go : (o : Option PllOutput) → All c (output_start k o)
+      go None = by tt
+      go (Some o) = by (λ j l e. absurd (omega arith), (tt, tt))
 
   bus_fine : (p : Plan) → All c (bus_entries p.buses p.selectors)
   unfolding bus_entries

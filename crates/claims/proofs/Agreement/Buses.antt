@@ -1,4 +1,5 @@
 -- AHB and APB: `hclk_calculate` and `ppre_calculate` against steps 6 and 7.
+use Rattle.std.specs.Prelude.{Option, Some, None, Result, Ok, unwrap_or}
 use mathlib.Core.Path.{◌≡◌, refl, ap}
 use mathlib.Core.List.{List}
 use mathlib.Core.Logic.{◌⊎◌, inl, inr, ⊎_elim}
@@ -8,16 +9,14 @@ use native.Mathlib.Omega.{arith}
 use native.Mathlib.Nat.{div-le_self, zero-div, zero-mod}
 use lib.Dec.{eqb}
 use borrow.Author.Tests.{eqb-true, ne_eqb, not-true, not-false}
+use Rattle.types.specs.declared.Refusal.{Refusal}
 use Rattle.types.specs.declared.Entry.{Entry}
-use Rattle.types.specs.declared.Hertz.{Hertz}
-use Rattle.types.specs.declared.Hertz.TheVariants.{Unset, Hz}
 use Rattle.types.specs.declared.Request.{Request}
 use Rattle.rules.specs.Document01.Result as Rules
-use Rattle.rules.specs.Document01.Result.{Result, ok}
-use Rattle.rules.specs.Document01.Hertz.{ratio_of, hertz_or, not_zero}
+use Rattle.rules.specs.Document01.Hertz.{ratio_of, not_zero}
 use Rattle.rules.specs.Document01.Buses.{hpre_of, hpre_for, ahb_of, apb_of, timer_of}
 use Rattle.rules.specs.Document01.Plan.{buses_of}
-use Rattle.claims.specs.Rust.Run.{Outcome, panics, ends, Run, continue, return, div_ceil, unwrap_or}
+use Rattle.claims.specs.Rust.Run.{Outcome, panics, ends, Run, continue, return, div_ceil}
 use Rattle.claims.specs.Rust.Rcc as F
 use Rattle.claims.specs.Rust.Rcc.{Config, match_hpre, PPRE, Div1, Div2, Div4, Div8, Div16, ppre_div, DefaultX2, match_ppre, Pclk, ppre_calculate, rcc_tim_ker_clk, Hclk, hclk_calculate, buses_calculate}
 use Rattle.laws.proofs.Tests.{by_test, row, one_row}
@@ -84,39 +83,39 @@ module _ (clock wanted : ℕ) (some : 1 ≤ clock) (set : 1 ≤ wanted) (es : Li
 
 -- ---- AHB
 -- what `hclk_calculate` takes for unset is the system clock
-some_wanted : (d : ℕ) (h : Hertz) → 1 ≤ d → not_zero h ≡ true → 1 ≤ hertz_or h d
-some_wanted d Unset p q = p
-some_wanted d (Hz w) p q = pos_of w (not-true (eqb w 0) q)
+some_wanted : (d : ℕ) (h : Option ℕ) → 1 ≤ d → not_zero h ≡ true → 1 ≤ unwrap_or h d
+some_wanted d None p q = p
+some_wanted d (Some w) p q = pos_of w (not-true (eqb w 0) q)
 
 abbrev pub hclk_of : Bus → Hclk
 hclk_of b = record { hpre_div = b.pre; rcc_hclk = b.clock }
 
-abbrev ahb_bus : ℕ → Hertz → Bus
+abbrev ahb_bus : ℕ → Option ℕ → Bus
 ahb_bus system h = record { pre = hpre_for system h; clock = system / hpre_for system h }
 
-hclk_ends : (system : ℕ) (h : Hertz) (es : List Entry) → 1 ≤ system → not_zero h ≡ true → hclk_calculate system h es ≡ ends es (hclk_of (ahb_bus system h))
+hclk_ends : (system : ℕ) (h : Option ℕ) (es : List Entry) → 1 ≤ system → not_zero h ≡ true → hclk_calculate system h es ≡ ends es (hclk_of (ahb_bus system h))
 unfolding hclk_calculate
 hclk_ends system h es p q =
-    let s : 1 ≤ hertz_or h system = some_wanted system h p q in
-    let x : ℕ = ratio_of system (hertz_or h system) in
+    let s : 1 ≤ unwrap_or h system = some_wanted system h p q in
+    let x : ℕ = ratio_of system (unwrap_or h system) in
     let z : eqb (hpre_of x) 0 ≡ false = ne_eqb (hpre_of x) 0 (λ e. let y = hpre_pos x in omega arith) in
-    rw (or_same h system, ceil_ends system (hertz_or h system) p s es, hpre_row x es (ratio_pos system (hertz_or h system) p s es), z)
+    rw (or_same h system, ceil_ends system (unwrap_or h system) p s es, hpre_row x es (ratio_pos system (unwrap_or h system) p s es), z)
 
 -- 0 Hz requested, or nothing to divide: it panics
-zero_panics : (clock : ℕ) (h : Hertz) (es : List Entry) → not_zero h ≡ false → div_ceil clock (unwrap_or h clock) es ≡ panics
-zero_panics clock Unset es q = absurd (let z : ◌≡◌ {A = ℕ} 0 1 = cc in omega arith)
-zero_panics clock (Hz w) es q = simp (not-false (eqb w 0) q)
+zero_panics : (clock : ℕ) (h : Option ℕ) (es : List Entry) → not_zero h ≡ false → div_ceil clock (unwrap_or h clock) es ≡ panics
+zero_panics clock None es q = absurd (let z : ◌≡◌ {A = ℕ} 0 1 = cc in omega arith)
+zero_panics clock (Some w) es q = simp (not-false (eqb w 0) q)
 
 -- the ratio of 0 to anything, in Rust
-none_ratio : (h : Hertz) (es : List Entry) → (div_ceil 0 (unwrap_or h 0) es ≡ panics) ⊎ (div_ceil 0 (unwrap_or h 0) es ≡ ends es 0)
-none_ratio Unset es = inl refl
-none_ratio (Hz w) es = by_test (eqb w 0) (λ (t : eqb w 0 ≡ true). inl (simp t)) (λ (f : eqb w 0 ≡ false). inr (simp (f, zero-mod w, zero-div w)))
+none_ratio : (h : Option ℕ) (es : List Entry) → (div_ceil 0 (unwrap_or h 0) es ≡ panics) ⊎ (div_ceil 0 (unwrap_or h 0) es ≡ ends es 0)
+none_ratio None es = inl refl
+none_ratio (Some w) es = by_test (eqb w 0) (λ (t : eqb w 0 ≡ true). inl (simp t)) (λ (f : eqb w 0 ≡ false). inr (simp (f, zero-mod w, zero-div w)))
 
-pub hclk_none : (h : Hertz) (es : List Entry) → hclk_calculate 0 h es ≡ panics
+pub hclk_none : (h : Option ℕ) (es : List Entry) → hclk_calculate 0 h es ≡ panics
 unfolding hclk_calculate
 hclk_none h es = ⊎_elim (λ (e : div_ceil 0 (unwrap_or h 0) es ≡ panics). rw e) (λ (e : div_ceil 0 (unwrap_or h 0) es ≡ ends es 0). rw e) (none_ratio h es)
 
-pub pclk_none : (h : Hertz) (es : List Entry) → ppre_calculate 0 h es ≡ panics
+pub pclk_none : (h : Option ℕ) (es : List Entry) → ppre_calculate 0 h es ≡ panics
 unfolding ppre_calculate
 pclk_none h es = ⊎_elim (λ (e : div_ceil 0 (unwrap_or h 0) es ≡ panics). rw e) (λ (e : div_ceil 0 (unwrap_or h 0) es ≡ ends es 0). rw e) (none_ratio h es)
 
@@ -129,20 +128,20 @@ pub record SameApb (ahb : ℕ) (b : Bus) (p : Pclk) : Type 0 where
 abbrev KeptApb : ℕ → List Entry → Bus → List Entry → Pclk → Type 0
 KeptApb ahb es b es' p = (es' ≡ es) × SameApb ahb b p
 
-apb_refused : (ahb : ℕ) (h : Hertz) (es : List Entry) → not_zero h ≡ false → Agree (KeptApb ahb es) (apb_of ahb h) (ppre_calculate ahb h es)
+apb_refused : (ahb : ℕ) (h : Option ℕ) (es : List Entry) → not_zero h ≡ false → Agree (KeptApb ahb es) (apb_of ahb h) (ppre_calculate ahb h es)
 unfolding apb_of ppre_calculate
 apb_refused ahb h es q = rw (q, zero_panics ahb h es q) tt
 
-apb_runs : (ahb : ℕ) (h : Hertz) (es : List Entry) → 1 ≤ ahb → not_zero h ≡ true → Agree (KeptApb ahb es) (apb_of ahb h) (ppre_calculate ahb h es)
+apb_runs : (ahb : ℕ) (h : Option ℕ) (es : List Entry) → 1 ≤ ahb → not_zero h ≡ true → Agree (KeptApb ahb es) (apb_of ahb h) (ppre_calculate ahb h es)
 unfolding apb_of ppre_calculate
 apb_runs ahb h es p q =
-    let s : 1 ≤ hertz_or h ahb = some_wanted ahb h p q in
-    let x : ℕ = ratio_of ahb (hertz_or h ahb) in
+    let s : 1 ≤ unwrap_or h ahb = some_wanted ahb h p q in
+    let x : ℕ = ratio_of ahb (unwrap_or h ahb) in
     let z : eqb (ppre_div (bits_of x)) 0 ≡ false = ne_eqb (ppre_div (bits_of x)) 0 (λ e. let y = ppre_pos x in let d = bits_div x in omega arith) in
-    rw (q, or_same h ahb, ceil_ends ahb (hertz_or h ahb) p s es, ppre_row x es (ratio_pos ahb (hertz_or h ahb) p s es), z)
+    rw (q, or_same h ahb, ceil_ends ahb (unwrap_or h ahb) p s es, ppre_row x es (ratio_pos ahb (unwrap_or h ahb) p s es), z)
     (refl, record { pre = bits_div x; clock = ap (λ (d : ℕ). ahb / d) (bits_div x); timer = bits_timer x ahb })
 
-pub apb_agrees : (ahb : ℕ) (h : Hertz) (es : List Entry) → 1 ≤ ahb → Agree (KeptApb ahb es) (apb_of ahb h) (ppre_calculate ahb h es)
+pub apb_agrees : (ahb : ℕ) (h : Option ℕ) (es : List Entry) → 1 ≤ ahb → Agree (KeptApb ahb es) (apb_of ahb h) (ppre_calculate ahb h es)
 apb_agrees ahb h es p = by_test (not_zero h) (λ t. apb_runs ahb h es p t) (λ f. apb_refused ahb h es f)
 
 -- ---- the buses
@@ -178,8 +177,8 @@ module _ (q : Request) (c : Config) (same : (c.rcc_hclk ≡ q.ahb) × (c.rcc_pcl
   abbrev ahb : ℕ
   ahb = bus.clock
 
-  abbrev apbs : Result Buses
-  apbs = Rules.◌>>=◌ (apb_of ahb q.apb1) (λ b1. Rules.◌>>=◌ (apb_of ahb q.apb2) (λ b2. Rules.◌>>=◌ (apb_of ahb q.apb3) (λ b3. ok (record { ahb = bus; apb1 = b1; apb2 = b2; apb3 = b3 }))))
+  abbrev apbs : Result Buses Refusal
+  apbs = Rules.◌>>=◌ (apb_of ahb q.apb1) (λ b1. Rules.◌>>=◌ (apb_of ahb q.apb2) (λ b2. Rules.◌>>=◌ (apb_of ahb q.apb3) (λ b3. Ok (record { ahb = bus; apb1 = b1; apb2 = b2; apb3 = b3 }))))
 
   abbrev pclks : Outcome F.Buses
   pclks = continue (ppre_calculate ahb q.apb1 es) (λ p1 es. continue (ppre_calculate ahb q.apb2 es) (λ p2 es. continue (ppre_calculate ahb q.apb3 es) (λ p3 es. ends es (record { hclk = hclk_of bus; pclk1 = p1; pclk2 = p2; pclk3 = p3 }))))

@@ -1,4 +1,5 @@
 -- 14 and 15 are answered only where one of the chip's PLLs has a divider that they refuse, whether freeze panics or ends.
+use Rattle.std.specs.Prelude.{Option, Some, None, Result, Ok, Err, is_some}
 use mathlib.Core.Path.{◌≡◌, refl, sym, ap, ◌∙◌}
 use mathlib.Core.Logic.{◌⊎◌, inl, inr}
 use mathlib.Core.Bool.{Bool, true, false, not, cond, ◌&&◌, ◌||◌}
@@ -7,16 +8,13 @@ use native.Mathlib.Omega.{arith}
 use lib.Dec.{leb, eqb}
 use Rattle.types.specs.declared.PllRequest.{PllRequest}
 use Rattle.types.specs.declared.PllSettings.{PllSettings}
-use Rattle.types.specs.declared.Pll.TheVariants.{Idle}
 use Rattle.types.specs.declared.Request.{Request}
 use Rattle.types.specs.declared.ChipState.{ChipState}
-use Rattle.types.specs.declared.FoundM.{FoundM}
-use Rattle.types.specs.declared.FoundM.TheVariants.{Nothing, M}
 use Rattle.types.specs.declared.Refusal.{Refusal}
 use Rattle.types.specs.declared.Refusal.TheVariants.{AboveLimit, McoHseUnstated, Pll1PUnlikeSystem, SourceZero, OutputZero, TargetOutside, NoM, NOutside}
-use Rattle.rules.specs.Document01.Result.{Result, refused, ok, ◌>>=◌}
+use Rattle.rules.specs.Document01.Result.{◌>>=◌}
 use Rattle.rules.specs.Document01.Refusals.{number_of}
-use Rattle.rules.specs.Document01.Hertz.{is_set, not_zero}
+use Rattle.rules.specs.Document01.Hertz.{not_zero}
 use Rattle.rules.specs.Document01.Request.{within, limited, from_hse1, from_hse2, stated, pll1_asked, source_of, system_of, needs_pll1, like, asked_of, system_fits, configured}
 use Rattle.rules.specs.Document01.ChoiceOfM.{chosen_m}
 use Rattle.rules.specs.Document01.OnePll.{wanted, none_zero, counted_outputs, least, largest, admissible, first_of, fraction_of, divider_p, allowed_p, spanned, range_for, target_for, divided_by, settings_of, settled, runs, running, pll_of}
@@ -72,7 +70,7 @@ module _ (odd : Bool) (source : ℕ) (a : PllRequest) where
       only_tested T (leb 4 n && leb n 512) NOutside _ (below (Forbidden odd a) NOutside (omega arith))
       (only_then T (fraction_of a.strategy (source / m) n (target / first_of a) (first_of a)) _
       (only_weaker Other T (fraction_of a.strategy (source / m) n (target / first_of a) (first_of a)) (other_told (Forbidden odd a)) (fraction_only a.strategy (source / m) n (target / first_of a) (first_of a)))
-      (λ f. only_next T (allowed_p odd (divider_p target a.p)) (ok (settings_of a (range_for odd a) target m (source / m) n f)) (allowed_told c) tt))
+      (λ f. only_next T (allowed_p odd (divider_p target a.p)) (Ok (settings_of a (range_for odd a) target m (source / m) n f)) (allowed_told c) tt))
 
   divided_told : CountedDivides odd target a.p → Only T (divided_by source (range_for odd a) target >>= λ m. settled odd a (range_for odd a) target m (source / m) (target / (source / m)))
   unfolding divided_by
@@ -81,9 +79,9 @@ module _ (odd : Bool) (source : ℕ) (a : PllRequest) where
       (λ t. rw t (go (chosen_m source target (range_for odd a).low (range_for odd a).high)))
       (λ f. rw f (below (Forbidden odd a) TargetOutside (omega arith)))
     where
-      go : (f : FoundM) → Only T (admissible f >>= λ m. settled odd a (range_for odd a) target m (source / m) (target / (source / m)))
-      go Nothing = below (Forbidden odd a) NoM (omega arith)
-      go (M m) = settled_told c m
+      go : (f : Option ℕ) → Only T (admissible f >>= λ m. settled odd a (range_for odd a) target m (source / m) (target / (source / m)))
+      go None = below (Forbidden odd a) NoM (omega arith)
+      go (Some m) = settled_told c m
 
   counted_p : wanted a ≡ true → none_zero a ≡ true → CountedDivides odd target a.p
   counted_p w n =
@@ -97,9 +95,9 @@ module _ (odd : Bool) (source : ℕ) (a : PllRequest) where
       (λ n. only_next T (spanned odd a) _ (only_weaker Other T (spanned odd a) (other_told (Forbidden odd a)) (spanned_only odd a)) (divided_told (counted_p w n)))
       (λ n. rw n (below (Forbidden odd a) OutputZero (omega arith)))
 
-  running_told : (x : Result PllSettings) → Only T x → Only T (running x)
-  running_told (refused n) h = h
-  running_told (ok s) h = tt
+  running_told : (x : Result PllSettings Refusal) → Only T x → Only T (running x)
+  running_told (Err n) h = h
+  running_told (Ok s) h = tt
 
   pub pll_told : Only T (pll_of odd source a)
   unfolding pll_of
@@ -119,7 +117,7 @@ module _ (q : Request) (c : ChipState) where
   third_told : Only C (planned_at q c 2)
   third_told = go c.three refl
     where
-      go : (t : Bool) → c.three ≡ t → Only C (cond t (pll_of (odd_at c 2) (source_of q) (asked_of q 2)) (ok Idle))
+      go : (t : Bool) → c.three ≡ t → Only C (cond t (pll_of (odd_at c 2) (source_of q) (asked_of q 2)) (Ok None))
       go true t = of_pll 2 (rw t (omega arith))
       go false t = tt
 
@@ -127,7 +125,7 @@ module _ (q : Request) (c : ChipState) where
   unfolding configured
   configured_told =
       only_next C (limited q) _ (only_require C (within q.system && (within q.ahb && (within q.apb1 && (within q.apb2 && within q.apb3)))) AboveLimit (below (Cause q c) AboveLimit (omega arith)))
-      (only_next C (stated q) _ (only_require C (is_set q.hse || not (from_hse1 q.mco1source || from_hse2 q.mco2source)) McoHseUnstated (below (Cause q c) McoHseUnstated (omega arith)))
+      (only_next C (stated q) _ (only_require C (is_some q.hse || not (from_hse1 q.mco1source || from_hse2 q.mco2source)) McoHseUnstated (below (Cause q c) McoHseUnstated (omega arith)))
       (only_next C (system_fits q) _ (only_require C (not (needs_pll1 q) || like (pll1_asked q).p (system_of q)) Pll1PUnlikeSystem (below (Cause q c) Pll1PUnlikeSystem (omega arith)))
       (only_require C (not (eqb (source_of q) 0)) SourceZero (below (Cause q c) SourceZero (omega arith)))))
 

@@ -1,38 +1,36 @@
 -- Nothing departs but 14 and 15: what freeze makes of a plan by definitions of its own is the plan's own list and clocks.
+use Rattle.std.specs.Prelude.{Option, Some, None, Result, Ok, Err}
 use mathlib.Core.Path.{◌≡◌, refl}
 use mathlib.Core.Bool.{not}
 use mathlib.Core.List.{List}
 use Prim.Native.Nat.{ℕ, ◌/◌}
 use lib.Dec.{eqb}
-use Rattle.types.specs.declared.Hertz.{Hertz}
+use Rattle.types.specs.declared.Refusal.{Refusal}
+use Rattle.types.specs.declared.PllSettings.{PllSettings}
 use Rattle.types.specs.declared.PllOutput.{PllOutput}
-use Rattle.types.specs.declared.PllOutput.TheVariants.{Off, On}
-use Rattle.types.specs.declared.Pll.{Pll}
-use Rattle.types.specs.declared.Pll.TheVariants.{Idle, Runs}
-use Rattle.types.specs.declared.PllPlan.{PllPlan}
 use Rattle.types.specs.declared.Bus.{Bus}
 use Rattle.types.specs.declared.Buses.{Buses}
 use Rattle.types.specs.declared.Plan.{Plan}
 use Rattle.types.specs.declared.Request.{Request}
 use Rattle.types.specs.declared.ChipState.{ChipState}
 use Rattle.types.specs.declared.Refusal.TheVariants.{BusZero, AhbZero}
-use Rattle.rules.specs.Document01.Result.{Result, ok, refused, require}
+use Rattle.rules.specs.Document01.Result.{require}
 use Rattle.rules.specs.Document01.Hertz.{not_zero}
 use Rattle.rules.specs.Document01.OnePll.{pll_from, clock_of, p_clock}
 use Rattle.rules.specs.Document01.Buses.{ahb_of, apb_of, hpre_for}
 use Rattle.rules.specs.Document01.Entries.{output_start, start_entries, starts, list_with, plan_entries, entries_of}
-use Rattle.rules.specs.Document01.Plan.{plls_of, hsi_ready, system_from, buses_of, mcos_of, plan_with, chosen_plan, answered}
+use Rattle.rules.specs.Document01.Plan.{plls_of, hsi_ready, system_from, buses_of, mcos_of, plan_with, chosen_plan}
 use Rattle.claims.specs.Demands.Departures.{freeze_hpre, freeze_ppre, freeze_bus, freeze_buses, started_by_p, freeze_starts, freeze_plan, freezes_of, as_planned}
 use Rattle.rules.proofs.Document01.Results.{Holds, holds_then, holds_next, holds_known}
 
 -- ---- the buses: the same divisor of every ratio
-ahb_freezes : (system : ℕ) (h : Hertz) → Holds (λ (b : Bus). b ≡ freeze_bus freeze_hpre system h) (ahb_of system h)
+ahb_freezes : (system : ℕ) (h : Option ℕ) → Holds (λ (b : Bus). b ≡ freeze_bus freeze_hpre system h) (ahb_of system h)
 unfolding ahb_of
 ahb_freezes system h =
     holds_next _ (require (not_zero h) BusZero) _
     (holds_next _ (require (not (eqb (system / hpre_for system h) 0)) AhbZero) _ refl)
 
-apb_freezes : (clock : ℕ) (h : Hertz) → Holds (λ (b : Bus). b ≡ freeze_bus freeze_ppre clock h) (apb_of clock h)
+apb_freezes : (clock : ℕ) (h : Option ℕ) → Holds (λ (b : Bus). b ≡ freeze_bus freeze_ppre clock h) (apb_of clock h)
 unfolding apb_of
 apb_freezes clock h = holds_next _ (require (not_zero h) BusZero) _ refl
 
@@ -47,15 +45,15 @@ buses_freeze q system =
     (λ z e3. rw (e1, e2, e3))))))
 
 -- ---- the starts
-output_starts : (k : ℕ) (o : PllOutput) → started_by_p k (clock_of o) ≡ output_start k o
-output_starts k Off = refl
-output_starts k (On d h) = refl
+output_starts : (k : ℕ) (o : Option PllOutput) → started_by_p k (clock_of o) ≡ output_start k o
+output_starts k None = refl
+output_starts k (Some o) = refl
 
-start_freezes : (k : ℕ) (x : Pll) → started_by_p k (p_clock x) ≡ start_entries k x
-start_freezes k Idle = refl
-start_freezes k (Runs s) = output_starts k s.p
+start_freezes : (k : ℕ) (x : Option PllSettings) → started_by_p k (p_clock x) ≡ start_entries k x
+start_freezes k None = refl
+start_freezes k (Some s) = output_starts k s.p
 
-starts_freeze : (l : List PllPlan) → freeze_starts l ≡ starts l
+starts_freeze : (l : List (Option PllSettings)) → freeze_starts l ≡ starts l
 starts_freeze l = rw (start_freezes 0 (pll_from l 0), start_freezes 1 (pll_from l 1), start_freezes 2 (pll_from l 2))
 
 list_freezes : (p : Plan) → list_with freeze_starts p ≡ plan_entries p
@@ -71,10 +69,10 @@ plan_freezes q c =
     (holds_known _ _ (buses_of q (system_from q l)) _ (buses_freeze q (system_from q l))
     (λ b e. holds_then _ (mcos_of q l (system_from q l)) _ (λ m. rw e))))
 
-pub freezes_as_planned : (q : Request) (c : ChipState) → Holds (λ (p : Plan). freezes_of q c (answered (ok p)) ≡ as_planned (answered (ok p))) (chosen_plan q c)
+pub freezes_as_planned : (q : Request) (c : ChipState) → Holds (λ (p : Plan). freezes_of q c p ≡ as_planned p) (chosen_plan q c)
 unfolding entries_of
 freezes_as_planned q c = go (chosen_plan q c) (plan_freezes q c)
   where
-    go : (x : Result Plan) → Holds (λ (p : Plan). freeze_plan q c p ≡ p) x → Holds (λ (p : Plan). freezes_of q c (answered (ok p)) ≡ as_planned (answered (ok p))) x
-    go (refused n) h = tt
-    go (ok p) h = rw (h, list_freezes p)
+    go : (x : Result Plan Refusal) → Holds (λ (p : Plan). freeze_plan q c p ≡ p) x → Holds (λ (p : Plan). freezes_of q c p ≡ as_planned p) x
+    go (Err n) h = tt
+    go (Ok p) h = rw (h, list_freezes p)

@@ -1,12 +1,11 @@
 -- No run of the Rust takes an operation back: what holds of the operations before it, and goes on to hold with each one more, holds where it ends.
+use Rattle.std.specs.Prelude.{Option, Some, None}
 use mathlib.Core.List.{List, [], ◌∷◌, ◌++◌}
 use mathlib.Core.Bool.{Bool, true, false, cond}
 use Prim.Native.Nat.{ℕ, zero, suc}
 use lib.IntN.{ℤ}
 use lib.Ieee.{Float}
 use Rattle.types.specs.declared.Entry.{Entry}
-use Rattle.types.specs.declared.Hertz.{Hertz}
-use Rattle.types.specs.declared.Hertz.TheVariants.{Unset, Hz}
 use Rattle.types.specs.declared.Strategy.{Strategy}
 use Rattle.types.specs.declared.Strategy.TheVariants.{Integer, Fractional}
 use Rattle.types.specs.declared.Mco1Source.{Mco1Source}
@@ -14,7 +13,7 @@ use Rattle.types.specs.declared.Mco2Source.{Mco2Source}
 use Rattle.types.specs.declared.Scale.{Scale}
 use Rattle.types.specs.declared.ChipState.{ChipState}
 use Rattle.claims.specs.Rust.Run.{Outcome, panics, ends, Run, continue, assert, unwrap}
-use Rattle.claims.specs.Rust.Pll.{PllConfig, VcoRange, PllOutput, None, Some, PllSetup, mapped, output_div, key_of, min_from, min_by_key, search_m, target_setup, divider_setup, range_setup, vco_output_divider_setup, pll_divider_setup, calc_fracn, vco_ck_of, write_pll, pll_setup}
+use Rattle.claims.specs.Rust.Pll.{PllConfig, VcoRange, PllOutput, PllSetup, mapped, output_div, key_of, min_from, min_by_key, search_m, target_setup, divider_setup, range_setup, vco_output_divider_setup, pll_divider_setup, calc_fracn, vco_ck_of, write_pll, pll_setup}
 use Rattle.claims.specs.Rust.Mco.{calculate_prescaler}
 use Rattle.claims.specs.Rust.Rcc.{Config, Plls, Buses, Mcos, TIMPRE, if_rm0481, hclk_calculate, ppre_calculate, buses_calculate, mco1_in, mco2_in, mcos_calculate, flash_acr, flash_setup, enable_hse, start_clocks, enable_pll, start_plls, switch_clocks}
 
@@ -41,9 +40,9 @@ module _ (P : List Entry → Type 0) (more : (e : Entry) (es : List Entry) → P
   asserts true es p = ending p
   asserts false es p = panicking
 
-  pub unwraps : (h : Hertz) (es : List Entry) → P es → Keeps P (unwrap h es)
-  unwraps Unset es p = panicking
-  unwraps (Hz h) es p = ending p
+  pub unwraps : (h : Option ℕ) (es : List Entry) → P es → Keeps P (unwrap h es)
+  unwraps None es p = panicking
+  unwraps (Some h) es p = ending p
 
   pub third : {A : Type 0} (three : Bool) (m : Run A) (a : A) (es : List Entry) → P es → Keeps P (m es) → Keeps P (if_rm0481 three m a es)
   third true m a es p h = h
@@ -52,14 +51,14 @@ module _ (P : List Entry → Type 0) (more : (e : Entry) (es : List Entry) → P
   pub ruleset laws = (panicking, ending, follows, either, either_run, asserts, unwraps, third)
 
   -- ---- pll.rs
-  maps : (h : Hertz) (odd : Bool) (es : List Entry) → P es → Keeps P (mapped h odd es)
-  maps Unset odd es p = search laws
-  maps (Hz h) true es p = search laws
-  maps (Hz h) false es p = search laws
+  maps : (h : Option ℕ) (odd : Bool) (es : List Entry) → P es → Keeps P (mapped h odd es)
+  maps None odd es p = search laws
+  maps (Some h) true es p = search laws
+  maps (Some h) false es p = search laws
 
-  divides : (target : ℕ) (h : Hertz) (es : List Entry) → P es → Keeps P (output_div target h es)
-  divides target Unset es p = search laws
-  divides target (Hz h) es p = search laws
+  divides : (target : ℕ) (h : Option ℕ) (es : List Entry) → P es → Keeps P (output_div target h es)
+  divides target None es p = search laws
+  divides target (Some h) es p = search laws
 
   key : (source target m : ℕ) (es : List Entry) → P es → Keeps P (key_of source target m es)
   unfolding key_of
@@ -95,20 +94,20 @@ module _ (P : List Entry → Type 0) (more : (e : Entry) (es : List Entry) → P
   unfolding vco_output_divider_setup
   vco source a odd es p = search (laws, maps, ranges)
 
-  pub output : (field enable clock : ℕ) (o : PllOutput) (es : List Entry) → P es → Keeps P (pll_divider_setup field enable clock o es)
+  pub output : (field enable clock : ℕ) (o : Option PllOutput) (es : List Entry) → P es → Keeps P (pll_divider_setup field enable clock o es)
   unfolding pll_divider_setup
   output field enable clock None es p = search laws
-  output field enable clock (Some h d) es p = search laws depth 12
+  output field enable clock (Some o) es p = search laws depth 12
 
   fracn : (ref n d o : Float) (es : List Entry) → P es → Keeps P (calc_fracn ref n d o es)
   unfolding calc_fracn
   fracn ref n d o es p = search laws
 
-  vco_clock : (k : ℕ) (s : Strategy) (ref n : ℕ) (o : PllOutput) (es : List Entry) → P es → Keeps P (vco_ck_of k s ref n o es)
+  vco_clock : (k : ℕ) (s : Strategy) (ref n : ℕ) (o : Option PllOutput) (es : List Entry) → P es → Keeps P (vco_ck_of k s ref n o es)
   unfolding vco_ck_of
   vco_clock k Integer ref n o es p = search laws
   vco_clock k Fractional ref n None es p = search laws
-  vco_clock k Fractional ref n (Some h d) es p = search (laws, fracn)
+  vco_clock k Fractional ref n (Some o) es p = search (laws, fracn)
 
   writes : (k : ℕ) (s : Strategy) (x : PllSetup) (es : List Entry) → P es → Keeps P (write_pll k s x es)
   unfolding write_pll
@@ -119,11 +118,11 @@ module _ (P : List Entry → Type 0) (more : (e : Entry) (es : List Entry) → P
   sets_up k odd source a es p = search (laws, vco, writes) depth 12
 
   -- ---- rcc.rs and mco.rs, after the PLLs
-  ahb : (system : ℕ) (h : Hertz) (es : List Entry) → P es → Keeps P (hclk_calculate system h es)
+  ahb : (system : ℕ) (h : Option ℕ) (es : List Entry) → P es → Keeps P (hclk_calculate system h es)
   unfolding hclk_calculate
   ahb system h es p = search laws depth 20
 
-  apb : (clock : ℕ) (h : Hertz) (es : List Entry) → P es → Keeps P (ppre_calculate clock h es)
+  apb : (clock : ℕ) (h : Option ℕ) (es : List Entry) → P es → Keeps P (ppre_calculate clock h es)
   unfolding ppre_calculate
   apb clock h es p = search laws depth 20
 
@@ -148,10 +147,10 @@ module _ (P : List Entry → Type 0) (more : (e : Entry) (es : List Entry) → P
   mco2 Mco2Source.Csi system c l es p = search laws
   mco2 Mco2Source.Lsi system c l es p = search laws
 
-  prescaler : (clock : ℕ) (h : Hertz) (es : List Entry) → P es → Keeps P (calculate_prescaler clock h es)
+  prescaler : (clock : ℕ) (h : Option ℕ) (es : List Entry) → P es → Keeps P (calculate_prescaler clock h es)
   unfolding calculate_prescaler
-  prescaler clock Unset es p = search laws
-  prescaler clock (Hz h) es p = search laws
+  prescaler clock None es p = search laws
+  prescaler clock (Some h) es p = search laws
 
   pub mcos : (system : ℕ) (c : Config) (l : Plls) (es : List Entry) → P es → Keeps P (mcos_calculate system c l es)
   unfolding mcos_calculate
@@ -161,17 +160,17 @@ module _ (P : List Entry → Type 0) (more : (e : Entry) (es : List Entry) → P
   unfolding flash_setup flash_acr
   flash clock s es p = search laws
 
-  hse : (h : Hertz) (bypass : Bool) (es : List Entry) → P es → Keeps P (enable_hse h bypass es)
-  hse Unset bypass es p = search laws
-  hse (Hz h) bypass es p = search laws
+  hse : (h : Option ℕ) (bypass : Bool) (es : List Entry) → P es → Keeps P (enable_hse h bypass es)
+  hse None bypass es p = search laws
+  hse (Some h) bypass es p = search laws
 
   pub clocks : (s : Scale) (c : Config) (b : Buses) (m : Mcos) (es : List Entry) → P es → Keeps P (start_clocks s c b m es)
   unfolding start_clocks
   clocks s c b m es p = search (laws, flash, hse) depth 12
 
-  enables : (k : ℕ) (h : Hertz) (es : List Entry) → P es → Keeps P (enable_pll k h es)
-  enables k Unset es p = search laws
-  enables k (Hz h) es p = search laws
+  enables : (k : ℕ) (h : Option ℕ) (es : List Entry) → P es → Keeps P (enable_pll k h es)
+  enables k None es p = search laws
+  enables k (Some h) es p = search laws
 
   pub plls : (chip : ChipState) (c : Config) (l : Plls) (es : List Entry) → P es → Keeps P (start_plls chip c l es)
   unfolding start_plls

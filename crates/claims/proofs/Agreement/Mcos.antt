@@ -1,4 +1,5 @@
 -- The MCOs: `calculate_prescaler` and the matches on the source against step 8, with refusals 20 to 23.
+use Rattle.std.specs.Prelude.{Option, Some, None, Ok, unwrap_or, is_some}
 use mathlib.Core.Path.{◌≡◌, refl, ap}
 use mathlib.Core.List.{List}
 use mathlib.Core.Bool.{true, false, ◌&&◌}
@@ -7,15 +8,13 @@ use native.Mathlib.Omega.{arith}
 use native.Mathlib.Nat.{mod-eq_of_lt}
 use lib.Dec.{leb, eqb}
 use borrow.Author.Tests.{leb-true}
+use Rattle.types.specs.declared.PllSettings.{PllSettings}
 use Rattle.types.specs.declared.Entry.{Entry}
-use Rattle.types.specs.declared.Hertz.{Hertz}
-use Rattle.types.specs.declared.Hertz.TheVariants.{Unset, Hz}
 use Rattle.types.specs.declared.Mco1Source.{Mco1Source}
 use Rattle.types.specs.declared.Mco2Source.{Mco2Source}
 use Rattle.types.specs.declared.PllRequest.{PllRequest}
 use Rattle.types.specs.declared.Request.{Request}
-use Rattle.rules.specs.Document01.Result.{ok}
-use Rattle.rules.specs.Document01.Hertz.{ratio_of, is_set, hertz_or}
+use Rattle.rules.specs.Document01.Hertz.{ratio_of}
 use Rattle.rules.specs.Document01.Request.{from_hse1, from_hse2}
 use Rattle.rules.specs.Document01.OnePll.{p_clock, q_clock, pll_from}
 use Rattle.rules.specs.Document01.Mco.{planned, mco1_input, mco2_input, mco_of}
@@ -32,7 +31,6 @@ use Rattle.claims.proofs.Agreement.Numbers.{nonzero, ceil_is}
 use Rattle.claims.proofs.Agreement.Config.{config_after}
 use Rattle.types.specs.declared.Mco.{Mco}
 use Rattle.types.specs.declared.Mcos.{Mcos}
-use Rattle.types.specs.declared.PllPlan.{PllPlan}
 
 abbrev pub prescaled_of : Mco → Prescaled
 prescaled_of m = record { prescaler = m.pre; ck = m.clock }
@@ -43,7 +41,7 @@ KeptMco es m es' p = (es' ≡ es) × (p ≡ prescaled_of m)
 -- 22, 23 and the prescaler
 module _ (clock f : ℕ) (es : List Entry) where
   abbrev Goal : Type 0
-  Goal = Agree (KeptMco es) (mco_of clock (Hz f)) (calculate_prescaler clock (Hz f) es)
+  Goal = Agree (KeptMco es) (mco_of clock (Some f)) (calculate_prescaler clock (Some f) es)
 
   zero_asked : eqb f 0 ≡ true → Goal
   unfolding mco_of calculate_prescaler
@@ -59,32 +57,32 @@ module _ (clock f : ℕ) (es : List Entry) where
       let low : 1 ≤ ratio_of clock f = leb-true 1 (ratio_of clock f) (and_left (leb 1 (ratio_of clock f)) _ t) in
       let high : ratio_of clock f ≤ 15 = leb-true (ratio_of clock f) 15 (and_right (leb 1 (ratio_of clock f)) _ t) in
       let small : ratio_of clock f % 256 ≡ ratio_of clock f = mod-eq_of_lt (omega arith) in
-      rw (n, ceil_is clock f (pos_of f n), t, nonzero (ratio_of clock f) low) (refl, ap (λ (x : ℕ). record { prescaler = x; ck = Hz (clock / ratio_of clock f) }) small)
+      rw (n, ceil_is clock f (pos_of f n), t, nonzero (ratio_of clock f) low) (refl, ap (λ (x : ℕ). record { prescaler = x; ck = Some (clock / ratio_of clock f) }) small)
 
   pub asked_agrees : Goal
   asked_agrees = by_test (eqb f 0) zero_asked (λ n. by_test (leb 1 (ratio_of clock f) && leb (ratio_of clock f) 15) (prescaled n) (out_of_range n))
 
-pub prescaler_agrees : (clock : ℕ) (h : Hertz) (es : List Entry) → Agree (KeptMco es) (mco_of clock h) (calculate_prescaler clock h es)
+pub prescaler_agrees : (clock : ℕ) (h : Option ℕ) (es : List Entry) → Agree (KeptMco es) (mco_of clock h) (calculate_prescaler clock h es)
 unfolding mco_of calculate_prescaler
-prescaler_agrees clock Unset es = (refl, refl)
-prescaler_agrees clock (Hz f) es = asked_agrees clock f es
+prescaler_agrees clock None es = (refl, refl)
+prescaler_agrees clock (Some f) es = asked_agrees clock f es
 
 -- ---- the clock of the source
 abbrev pub Kept : List Entry → ℕ → List Entry → ℕ → Type 0
 Kept es a es' b = (es' ≡ es) × (b ≡ a)
 
-unwrapped : (h : Hertz) (es : List Entry) → Agree (Kept es) (planned h) (unwrap h es)
-unwrapped Unset es = tt
-unwrapped (Hz h) es = (refl, refl)
+unwrapped : (h : Option ℕ) (es : List Entry) → Agree (Kept es) (planned h) (unwrap h es)
+unwrapped None es = tt
+unwrapped (Some h) es = (refl, refl)
 
-hse_there : (h : Hertz) (es : List Entry) → is_set h ≡ true → Agree (Kept es) (ok (hertz_or h 0)) (unwrap h es)
-hse_there Unset es t = absurd (let z : ◌≡◌ {A = ℕ} 0 1 = cc in omega arith)
-hse_there (Hz h) es t = (refl, refl)
+hse_there : (h : Option ℕ) (es : List Entry) → is_some h ≡ true → Agree (Kept es) (Ok (unwrap_or h 0)) (unwrap h es)
+hse_there None es t = absurd (let z : ◌≡◌ {A = ℕ} 0 1 = cc in omega arith)
+hse_there (Some h) es t = (refl, refl)
 
-abbrev pub clocks_of : List PllPlan → F.Plls
+abbrev pub clocks_of : List (Option PllSettings) → F.Plls
 clocks_of l = record { pll1 = pll_clocks (pll_from l 0); pll2 = pll_clocks (pll_from l 1); pll3 = pll_clocks (pll_from l 2) }
 
-mco1_agrees : (s : Mco1Source) (c : Config) (l : List PllPlan) (es : List Entry) → (from_hse1 s ≡ true → is_set c.hse ≡ true) → Agree (Kept es) (mco1_input s c.hse (q_clock (pll_from l 0))) (mco1_in s c (clocks_of l) es)
+mco1_agrees : (s : Mco1Source) (c : Config) (l : List (Option PllSettings)) (es : List Entry) → (from_hse1 s ≡ true → is_some c.hse ≡ true) → Agree (Kept es) (mco1_input s c.hse (q_clock (pll_from l 0))) (mco1_in s c (clocks_of l) es)
 unfolding mco1_input mco1_in
 mco1_agrees Mco1Source.Hsi c l es h = (refl, refl)
 mco1_agrees Mco1Source.Lse c l es h = tt
@@ -92,7 +90,7 @@ mco1_agrees Mco1Source.Hse c l es h = hse_there c.hse es (h refl)
 mco1_agrees Mco1Source.Pll1Q c l es h = unwrapped (q_clock (pll_from l 0)) es
 mco1_agrees Mco1Source.Hsi48 c l es h = (refl, refl)
 
-mco2_agrees : (s : Mco2Source) (system : ℕ) (c : Config) (l : List PllPlan) (es : List Entry) → (from_hse2 s ≡ true → is_set c.hse ≡ true) → Agree (Kept es) (mco2_input s system c.hse (p_clock (pll_from l 0)) (p_clock (pll_from l 1))) (mco2_in s system c (clocks_of l) es)
+mco2_agrees : (s : Mco2Source) (system : ℕ) (c : Config) (l : List (Option PllSettings)) (es : List Entry) → (from_hse2 s ≡ true → is_some c.hse ≡ true) → Agree (Kept es) (mco2_input s system c.hse (p_clock (pll_from l 0)) (p_clock (pll_from l 1))) (mco2_in s system c (clocks_of l) es)
 unfolding mco2_input mco2_in
 mco2_agrees Mco2Source.Sysclk system c l es h = (refl, refl)
 mco2_agrees Mco2Source.Pll2P system c l es h = unwrapped (p_clock (pll_from l 1)) es
@@ -108,7 +106,7 @@ mcos_rust m = record { mco1 = prescaled_of m.mco1; mco2 = prescaled_of m.mco2 }
 abbrev pub KeptMcos : List Entry → Mcos → List Entry → F.Mcos → Type 0
 KeptMcos es m es' r = (es' ≡ es) × (r ≡ mcos_rust m)
 
-pub mcos_agree : (q : Request) (asked1 : PllRequest) (l : List PllPlan) (system : ℕ) (es : List Entry) → (from_hse1 q.mco1source ≡ true → is_set q.hse ≡ true) → (from_hse2 q.mco2source ≡ true → is_set q.hse ≡ true) → Agree (KeptMcos es) (mcos_of q l system) (mcos_calculate system (config_after q asked1) (clocks_of l) es)
+pub mcos_agree : (q : Request) (asked1 : PllRequest) (l : List (Option PllSettings)) (system : ℕ) (es : List Entry) → (from_hse1 q.mco1source ≡ true → is_some q.hse ≡ true) → (from_hse2 q.mco2source ≡ true → is_some q.hse ≡ true) → Agree (KeptMcos es) (mcos_of q l system) (mcos_calculate system (config_after q asked1) (clocks_of l) es)
 unfolding mcos_of mcos_calculate
 mcos_agree q asked1 l system es h1 h2 =
     let c : Config = config_after q asked1 in

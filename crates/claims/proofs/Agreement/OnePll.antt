@@ -1,4 +1,5 @@
 -- One PLL: `pll_setup` against `pll_of`, all refusals from 7 to 15.
+use Rattle.std.specs.Prelude.{Option, Some, None, Result, Ok, Err, is_some}
 use mathlib.Core.Path.{◌≡◌, refl, sym}
 use mathlib.Core.List.{List, ◌++◌, append-nil}
 use mathlib.Core.Bool.{Bool, true, false, ◌&&◌, ◌||◌}
@@ -6,25 +7,19 @@ use Prim.Native.Nat.{ℕ, ◌/◌, ◌≤◌}
 use native.Mathlib.Nat.{le_trans}
 use lib.Dec.{leb, ltb}
 use borrow.Author.Tests.{leb-true, lt-ltb}
+use Rattle.std.specs.Option.{option_or}
 use Rattle.types.specs.declared.Entry.{Entry}
-use Rattle.types.specs.declared.Hertz.{Hertz}
-use Rattle.types.specs.declared.Hertz.TheVariants.{Unset, Hz}
 use Rattle.types.specs.declared.PllRequest.{PllRequest}
 use Rattle.types.specs.declared.PllSettings.{PllSettings}
-use Rattle.types.specs.declared.Pll.{Pll}
 use Rattle.types.specs.declared.Refusal.{Refusal}
-use Rattle.types.specs.declared.FoundM.{FoundM}
-use Rattle.types.specs.declared.FoundM.TheVariants.{Nothing, M}
 use Rattle.rules.specs.Document01.ChoiceOfM.{chosen_m, Admissible}
 use Rattle.rules.specs.Document01.Target.{target_of}
 use Rattle.rules.proofs.Document01.ChoiceOfM.{chosen_some, admits}
 use Rattle.rules.proofs.Document01.Target.{ref_low, divider_le}
-use Rattle.rules.specs.Document01.Result.{Result, refused, ok}
-use Rattle.rules.specs.Document01.Hertz.{is_set}
 use Rattle.rules.specs.Document01.OnePll.{wanted, none_zero, counted_p, counted_outputs, least, largest, Range, range_of, spanned, divided_by, runs, running, pll_of}
 use Rattle.rules.specs.Document01.Entries.{setup_entries}
 use Rattle.claims.proofs.Legal.OnePll.{Good, divider_p_is, divider_q}
-use Rattle.claims.specs.Rust.Run.{Outcome, panics, ends, continue, is_some, or}
+use Rattle.claims.specs.Rust.Run.{Outcome, panics, ends, continue}
 use Rattle.claims.specs.Rust.CoreClocks.{PllClocks}
 use Rattle.claims.specs.Rust.Pll.{vco_setup, write_pll, pll_setup}
 use Rattle.claims.specs.Rust.Rcc.{pll_config}
@@ -37,9 +32,9 @@ use Rattle.claims.proofs.Agreement.Setup.{zero_panics, pos_p, pos_q, pos_r, span
 use Rattle.claims.proofs.Agreement.Settle.{CountedDivides, SameSettings, settled_agrees}
 
 -- P as it counts is the least output or more, and is divided by at most 128
-pub counted_divides : (low most end : ℕ) (odd : Bool) (h : Hertz) → 1 ≤ low → Inside (counted_p odd) low most h → CountedDivides odd (target_of low most end) h
-counted_divides low most end odd Unset l i = tt
-counted_divides low most end odd (Hz h) l i = divider_le low most end l (counted_p odd h) i.0
+pub counted_divides : (low most end : ℕ) (odd : Bool) (h : Option ℕ) → 1 ≤ low → Inside (counted_p odd) low most h → CountedDivides odd (target_of low most end) h
+counted_divides low most end odd None l i = tt
+counted_divides low most end odd (Some h) l i = divider_le low most end l (counted_p odd h) i.0
 
 module _ (k source : ℕ) (a : PllRequest) (odd : Bool) (es : List Entry) (some : 1 ≤ source) (w : wanted a ≡ true) where
   abbrev low : ℕ
@@ -73,10 +68,10 @@ module _ (k source : ℕ) (a : PllRequest) (odd : Bool) (es : List Entry) (some 
   unfolding runs spanned divided_by
   r10 n t8 t9 f = rw (n, t8, t9, f, outside_panics source a odd es some w n t8 t9 f) tt
 
-  r11 : none_zero a ≡ true → leb (most / 128) low ≡ true → ltb most 560_000_000 ≡ true → leb g.start target && leb target g.end ≡ true → (f : FoundM) → chosen_m source target g.low g.high ≡ f → Goal
+  r11 : none_zero a ≡ true → leb (most / 128) low ≡ true → ltb most 560_000_000 ≡ true → leb g.start target && leb target g.end ≡ true → (f : Option ℕ) → chosen_m source target g.low g.high ≡ f → Goal
   unfolding runs spanned divided_by
-  r11 n t8 t9 t10 Nothing e = rw (n, t8, t9, t10, vco_ends source a odd es some w n t8 t9 t10, e) tt
-  r11 n t8 t9 t10 (M m) e =
+  r11 n t8 t9 t10 None e = rw (n, t8, t9, t10, vco_ends source a odd es some w n t8 t9 t10, e) tt
+  r11 n t8 t9 t10 (Some m) e =
       let sp : Span odd a.p a.q a.r = spanned_is source a odd es some w n in
       let gd : Good g most = good source a odd es some w n t8 t9 in
       let c : Admissible source g.low g.high m = (chosen_some source target g.low g.high m e).admissible in
@@ -99,20 +94,20 @@ module _ (k source : ℕ) (a : PllRequest) (odd : Bool) (es : List Entry) (some 
       by_test (none_zero a) (λ n. by_test (leb (most / 128) low) (λ t8. by_test (ltb most 560_000_000) (λ t9. by_test (leb g.start target && leb target g.end) (λ t10. r11 n t8 t9 t10 (chosen_m source target g.low g.high) refl) (r10 n t8 t9)) (r9 n t8)) (r8 n)) r7
 
 -- ---- with a PLL that is skipped
-abbrev pub SamePll : ℕ → List Entry → Pll → List Entry → PllClocks → Type 0
+abbrev pub SamePll : ℕ → List Entry → Option PllSettings → List Entry → PllClocks → Type 0
 SamePll k es x es' c = (es' ≡ es ++ setup_entries k x) × (c ≡ pll_clocks x)
 
-running_agrees : (D : Refusal → List Entry → Type 0) (k : ℕ) (es : List Entry) (x : Result PllSettings) (o : Outcome PllClocks) → AgreeOr D (SameSettings k es) x o → AgreeOr D (SamePll k es) (running x) o
-running_agrees D k es (refused n) panics h = h
-running_agrees D k es (refused n) (ends es' c) h = h
-running_agrees D k es (ok s) panics h = h
-running_agrees D k es (ok s) (ends es' c) h = h
+running_agrees : (D : Refusal → List Entry → Type 0) (k : ℕ) (es : List Entry) (x : Result PllSettings Refusal) (o : Outcome PllClocks) → AgreeOr D (SameSettings k es) x o → AgreeOr D (SamePll k es) (running x) o
+running_agrees D k es (Err n) panics h = h
+running_agrees D k es (Err n) (ends es' c) h = h
+running_agrees D k es (Ok s) panics h = h
+running_agrees D k es (Ok s) (ends es' c) h = h
 
-some_is : (p q r : Hertz) → is_some (or p (or q r)) ≡ is_set p || (is_set q || is_set r)
-some_is (Hz p) q r = refl
-some_is Unset (Hz q) r = refl
-some_is Unset Unset (Hz r) = refl
-some_is Unset Unset Unset = refl
+some_is : (p q r : Option ℕ) → is_some (option_or p (option_or q r)) ≡ is_some p || (is_some q || is_some r)
+some_is (Some p) q r = refl
+some_is None (Some q) r = refl
+some_is None None (Some r) = refl
+some_is None None None = refl
 
 pub pll_agrees : (k source : ℕ) (a : PllRequest) (odd : Bool) (es : List Entry) → 1 ≤ source → AgreeOr (WrittenAt k odd a) (SamePll k es) (pll_of odd source a) (pll_setup k odd source (pll_config a) es)
 unfolding pll_of pll_setup

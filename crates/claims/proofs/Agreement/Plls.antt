@@ -1,4 +1,5 @@
 -- From the setters to the PLLs: steps 1 to 4 against the Rust up to `plls_setup`, refusals 3 to 15.
+use Rattle.std.specs.Prelude.{Option, Some, None, Result, Ok, Err, is_some}
 use mathlib.Core.Path.{◌≡◌, refl, sym, ap, subst, ◌∙◌}
 use mathlib.Core.List.{List, [], ◌++◌, append_assoc, append-nil}
 use mathlib.Core.Bool.{Bool, true, false, not, cond, ◌&&◌, ◌||◌}
@@ -6,18 +7,14 @@ use Prim.Native.Nat.{ℕ, ◌/◌, ◌≤◌, ◌<◌}
 use native.Mathlib.Omega.{arith}
 use lib.Dec.{leb, eqb}
 use borrow.Author.Tests.{eqb-true, not-false}
+use Rattle.types.specs.declared.Refusal.{Refusal}
 use Rattle.types.specs.declared.Entry.{Entry}
-use Rattle.types.specs.declared.Hertz.{Hertz}
-use Rattle.types.specs.declared.Hertz.TheVariants.{Unset, Hz}
 use Rattle.types.specs.declared.PllRequest.{PllRequest}
 use Rattle.types.specs.declared.PllSettings.{PllSettings}
-use Rattle.types.specs.declared.Pll.{Pll}
-use Rattle.types.specs.declared.Pll.TheVariants.{Idle}
 use Rattle.types.specs.declared.Request.{Request}
 use Rattle.types.specs.declared.ChipState.{ChipState}
 use Rattle.rules.specs.Document01.Result as Rules
-use Rattle.rules.specs.Document01.Result.{Result, refused, ok, require}
-use Rattle.rules.specs.Document01.Hertz.{is_set}
+use Rattle.rules.specs.Document01.Result.{require}
 use Rattle.rules.specs.Document01.Request.{for_pll1_q, pll_at, within, from_hse1, from_hse2, pll1_asked, source_of, needs_pll1, asked_of, sourced, system_fits, configured, limited, stated}
 use Rattle.types.specs.declared.Refusal.TheVariants.{NOutside}
 use Rattle.rules.specs.Document01.OnePll.{Range, settings_of, vco_by, output_of, clock_of, p_clock, spanned, divided_by, settled, fraction_of, allowed_p, divider_p, runs, running, pll_of, range_for, target_for, first_of, pll_from}
@@ -39,44 +36,43 @@ use Rattle.claims.proofs.Agreement.Numbers.{or_same}
 use Rattle.claims.proofs.Agreement.Config.{config_after, config_with, setters_end, setters_panic, fill_q, mco1_fills, mco1_panics, mco2_fills, mco2_panics, sys_ck_word, KeptSys, system_agrees}
 use Rattle.claims.proofs.Agreement.Mcos.{clocks_of}
 use Rattle.claims.proofs.Agreement.OnePll.{SamePll, pll_agrees, source_panics}
-use Rattle.types.specs.declared.PllPlan.{PllPlan}
 use Rattle.rules.specs.Document01.Chip.{odd_at}
 
 -- ---- a PLL whose P is requested reports one
-p_of : (target vco : ℕ) (h : Hertz) → is_set h ≡ true → is_set (clock_of (output_of target vco h)) ≡ true
-p_of target vco Unset t = t
-p_of target vco (Hz h) t = refl
+p_of : (target vco : ℕ) (h : Option ℕ) → is_some h ≡ true → is_some (clock_of (output_of target vco h)) ≡ true
+p_of target vco None t = t
+p_of target vco (Some h) t = refl
 
-abbrev HasP : Pll → Type 0
-HasP x = is_set (p_clock x) ≡ true
+abbrev HasP : Option PllSettings → Type 0
+HasP x = is_some (p_clock x) ≡ true
 
 abbrev ReportsP : PllSettings → Type 0
-ReportsP s = is_set (clock_of s.p) ≡ true
+ReportsP s = is_some (clock_of s.p) ≡ true
 
-settled_p : (odd : Bool) (a : PllRequest) (g : Range) (target m ref n : ℕ) → is_set a.p ≡ true → Holds ReportsP (settled odd a g target m ref n)
+settled_p : (odd : Bool) (a : PllRequest) (g : Range) (target m ref n : ℕ) → is_some a.p ≡ true → Holds ReportsP (settled odd a g target m ref n)
 unfolding settled
 settled_p odd a g target m ref n t =
     holds_next ReportsP (require (leb 4 n && leb n 512) NOutside) _
     (holds_then ReportsP (fraction_of a.strategy ref n (target / first_of a) (first_of a)) _
-    (λ f. holds_next ReportsP (allowed_p odd (divider_p target a.p)) (ok (settings_of a g target m ref n f)) (p_of target (vco_by f ref n) a.p t)))
+    (λ f. holds_next ReportsP (allowed_p odd (divider_p target a.p)) (Ok (settings_of a g target m ref n f)) (p_of target (vco_by f ref n) a.p t)))
 
-runs_p : (odd : Bool) (source : ℕ) (a : PllRequest) → is_set a.p ≡ true → Holds ReportsP (runs odd source a)
+runs_p : (odd : Bool) (source : ℕ) (a : PllRequest) → is_some a.p ≡ true → Holds ReportsP (runs odd source a)
 unfolding runs
 runs_p odd source a t =
     holds_next ReportsP (spanned odd a) _
     (holds_then ReportsP (divided_by source (range_for odd a) (target_for odd a)) _
     (λ m. settled_p odd a (range_for odd a) (target_for odd a) m (source / m) (target_for odd a / (source / m)) t))
 
-running_p : (x : Result PllSettings) → Holds ReportsP x → Holds HasP (running x)
-running_p (refused n) h = tt
-running_p (ok s) h = h
+running_p : (x : Result PllSettings Refusal) → Holds ReportsP x → Holds HasP (running x)
+running_p (Err n) h = tt
+running_p (Ok s) h = h
 
-pll_p : (odd : Bool) (source : ℕ) (a : PllRequest) → is_set a.p ≡ true → Holds HasP (pll_of odd source a)
+pll_p : (odd : Bool) (source : ℕ) (a : PllRequest) → is_some a.p ≡ true → Holds HasP (pll_of odd source a)
 unfolding pll_of
-pll_p odd source a t = rw (or_true (is_set a.p) (is_set a.q || is_set a.r) t) (running_p (runs odd source a) (runs_p odd source a t))
+pll_p odd source a t = rw (or_true (is_some a.p) (is_some a.q || is_some a.r) t) (running_p (runs odd source a) (runs_p odd source a t))
 
 -- where the system clock needs PLL1, P is requested of it
-asked_p : (q : Request) → needs_pll1 q ≡ true → is_set (asked_of q 0).p ≡ true
+asked_p : (q : Request) → needs_pll1 q ≡ true → is_some (asked_of q 0).p ≡ true
 asked_p q t = rw t
 
 -- ---- up to `plls_setup`: what the Rust then has
@@ -101,26 +97,26 @@ ready q c = continue (setters q []) (after_setters c)
 
 -- the HSE is stated where an MCO takes it
 pub record Stated (q : Request) : Type 0 where
-  pub one : from_hse1 q.mco1source ≡ true → is_set q.hse ≡ true
-  pub two : from_hse2 q.mco2source ≡ true → is_set q.hse ≡ true
+  pub one : from_hse1 q.mco1source ≡ true → is_some q.hse ≡ true
+  pub two : from_hse2 q.mco2source ≡ true → is_some q.hse ≡ true
 
-pub record SameReady (q : Request) (c : ChipState) (l : List PllPlan) (es : List Entry) (r : Ready) : Type 0 where
+pub record SameReady (q : Request) (c : ChipState) (l : List (Option PllSettings)) (es : List Entry) (r : Ready) : Type 0 where
   pub entries : es ≡ setup_entries 0 (pll_from l 0) ++ (setup_entries 1 (pll_from l 1) ++ setup_entries 2 (pll_from l 2))
   pub value : r ≡ record { s = sys_ck_word q (asked_of q 0); plls = clocks_of l }
-  pub needed : needs_pll1 q ≡ true → is_set (p_clock (pll_from l 0)) ≡ true
-  pub third : c.three ≡ false → pll_from l 2 ≡ Idle
+  pub needed : needs_pll1 q ≡ true → is_some (p_clock (pll_from l 0)) ≡ true
+  pub third : c.three ≡ false → pll_from l 2 ≡ None
   pub states : Stated q
 
 -- ---- the PLLs
-third_idle : (q : Request) (c : ChipState) → Holds (λ (x : Pll). c.three ≡ false → x ≡ Idle) (planned_at q c 2)
+third_idle : (q : Request) (c : ChipState) → Holds (λ (x : Option PllSettings). c.three ≡ false → x ≡ None) (planned_at q c 2)
 third_idle q c =
     by_test c.three
     (λ (t : c.three ≡ true). holds_any (planned_at q c 2) (λ x e. absurd (never (sym t ∙ e))))
     (λ (f : c.three ≡ false). rw f (λ e. refl))
   where
-    holds_any : (x : Result Pll) → ((y : Pll) → c.three ≡ false → y ≡ Idle) → Holds (λ (y : Pll). c.three ≡ false → y ≡ Idle) x
-    holds_any (refused n) h = tt
-    holds_any (ok y) h = h y
+    holds_any : (x : Result (Option PllSettings) Refusal) → ((y : Option PllSettings) → c.three ≡ false → y ≡ None) → Holds (λ (y : Option PllSettings). c.three ≡ false → y ≡ None) x
+    holds_any (Err n) h = tt
+    holds_any (Ok y) h = h y
 
 -- PLL k of the chip agrees
 pll_departs : (q : Request) (c : ChipState) (k : ℕ) (es : List Entry) → k < pll_count c → 1 ≤ source_of q → AgreeOrDepart q c (SamePll k es) (pll_of (odd_at c k) (source_of q) (asked_of q k)) (pll_setup k (odd_at c k) (source_of q) (pll_config (asked_of q k)) es)
@@ -137,15 +133,15 @@ two_there c = go c.three
     go true = omega arith
     go false = omega arith
 
-third_agrees : (q : Request) (c : ChipState) (es : List Entry) → 1 ≤ source_of q → (three : Bool) → c.three ≡ three → AgreeOrDepart q c (SamePll 2 es) (cond three (pll_of (odd_at c 2) (source_of q) (asked_of q 2)) (ok Idle)) (if_rm0481 three (pll_setup 2 (odd_at c 2) (source_of q) (pll_config (asked_of q 2))) no_pll es)
+third_agrees : (q : Request) (c : ChipState) (es : List Entry) → 1 ≤ source_of q → (three : Bool) → c.three ≡ three → AgreeOrDepart q c (SamePll 2 es) (cond three (pll_of (odd_at c 2) (source_of q) (asked_of q 2)) (Ok None)) (if_rm0481 three (pll_setup 2 (odd_at c 2) (source_of q) (pll_config (asked_of q 2))) no_pll es)
 third_agrees q c es h true t = pll_departs q c 2 es (rw t (omega arith)) h
 third_agrees q c es h false t = (sym (append-nil es), refl)
 
-abbrev rules : Request → ChipState → Result (List PllPlan)
+abbrev rules : Request → ChipState → Result (List (Option PllSettings)) Refusal
 rules q c =
     Rules.◌>>=◌ (planned_at q c 0) (λ pll1.
     Rules.◌>>=◌ (planned_at q c 1) (λ pll2.
-    Rules.◌>>=◌ (planned_at q c 2) (λ pll3. ok (by_number pll1 pll2 pll3))))
+    Rules.◌>>=◌ (planned_at q c 2) (λ pll3. Ok (by_number pll1 pll2 pll3))))
 
 module _ (q : Request) (c : ChipState) (st : Stated q) where
   abbrev source : ℕ
@@ -160,29 +156,29 @@ module _ (q : Request) (c : ChipState) (st : Stated q) where
       rw (t, or_same q.hse 32_000_000, none) tt
 
   -- 7 to 15, for each PLL
-  abbrev SamePlls : List PllPlan → List Entry → F.Plls → Type 0
+  abbrev SamePlls : List (Option PllSettings) → List Entry → F.Plls → Type 0
   SamePlls l es r =
       (es ≡ setup_entries 0 (pll_from l 0) ++ (setup_entries 1 (pll_from l 1) ++ setup_entries 2 (pll_from l 2)))
       × (r ≡ clocks_of l)
-      × (needs_pll1 q ≡ true → is_set (p_clock (pll_from l 0)) ≡ true)
-      × (c.three ≡ false → pll_from l 2 ≡ Idle)
+      × (needs_pll1 q ≡ true → is_some (p_clock (pll_from l 0)) ≡ true)
+      × (c.three ≡ false → pll_from l 2 ≡ None)
 
-  abbrev Needed : Pll → Type 0
-  Needed x = needs_pll1 q ≡ true → is_set (p_clock x) ≡ true
+  abbrev Needed : Option PllSettings → Type 0
+  Needed x = needs_pll1 q ≡ true → is_some (p_clock x) ≡ true
 
-  abbrev Third : Pll → Type 0
-  Third x = c.three ≡ false → x ≡ Idle
+  abbrev Third : Option PllSettings → Type 0
+  Third x = c.three ≡ false → x ≡ None
 
   needed_p : Holds Needed (planned_at q c 0)
   needed_p = by_test (needs_pll1 q) (λ (t : needs_pll1 q ≡ true). weaken (planned_at q c 0) (pll_p (odd_at c 0) source (asked_of q 0) (asked_p q t))) (λ (f : needs_pll1 q ≡ false). vacuous (planned_at q c 0) f)
     where
-      weaken : (x : Result Pll) → Holds HasP x → Holds Needed x
-      weaken (refused n) h = tt
-      weaken (ok y) h = λ e. h
+      weaken : (x : Result (Option PllSettings) Refusal) → Holds HasP x → Holds Needed x
+      weaken (Err n) h = tt
+      weaken (Ok y) h = λ e. h
 
-      vacuous : (x : Result Pll) → needs_pll1 q ≡ false → Holds Needed x
-      vacuous (refused n) f = tt
-      vacuous (ok y) f = λ e. absurd (never (sym e ∙ f))
+      vacuous : (x : Result (Option PllSettings) Refusal) → needs_pll1 q ≡ false → Holds Needed x
+      vacuous (Err n) f = tt
+      vacuous (Ok y) f = λ e. absurd (never (sym e ∙ f))
 
   abbrev rust : (k : ℕ) → Run PllClocks
   rust k = pll_setup k (odd_at c k) source (pll_config (asked_of q k))
@@ -223,18 +219,18 @@ module _ (q : Request) (c : ChipState) where
   abbrev filled1 : PllRequest
   filled1 = fill_q (pll_at q 0) (for_pll1_q q.mco1source q.mco1)
 
-  mco1_ends : (from_hse1 q.mco1source ≡ true → is_set q.hse ≡ true) → mco1_setup (config_of q) [] ≡ ends [] (config_with q q.system filled1 (pll_at q 1))
+  mco1_ends : (from_hse1 q.mco1source ≡ true → is_some q.hse ≡ true) → mco1_setup (config_of q) [] ≡ ends [] (config_with q q.system filled1 (pll_at q 1))
   unfolding mco1_setup
   mco1_ends h = mco1_fills q q.system (pll_at q 0) (pll_at q 1) [] q.mco1source h
 
-  mco2_ends : (from_hse2 q.mco2source ≡ true → is_set q.hse ≡ true) → mco2_setup (config_with q q.system filled1 (pll_at q 1)) [] ≡ ends [] (config_after q (pll1_asked q))
+  mco2_ends : (from_hse2 q.mco2source ≡ true → is_some q.hse ≡ true) → mco2_setup (config_with q q.system filled1 (pll_at q 1)) [] ≡ ends [] (config_after q (pll1_asked q))
   unfolding mco2_setup
   mco2_ends h = mco2_fills q q.system filled1 (pll_at q 1) [] q.mco2source h
 
-  unstated : is_set q.hse || not (from_hse1 q.mco1source || from_hse2 q.mco2source) ≡ false → after_setters c (config_of q) [] ≡ panics
+  unstated : is_some q.hse || not (from_hse1 q.mco1source || from_hse2 q.mco2source) ≡ false → after_setters c (config_of q) [] ≡ panics
   unfolding mco1_setup mco2_setup
   unstated f =
-      let u = or_false (is_set q.hse) (not (from_hse1 q.mco1source || from_hse2 q.mco2source)) f in
+      let u = or_false (is_some q.hse) (not (from_hse1 q.mco1source || from_hse2 q.mco2source)) f in
       let some : from_hse1 q.mco1source || from_hse2 q.mco2source ≡ true = not-false (from_hse1 q.mco1source || from_hse2 q.mco2source) u.1 in
       by_test (from_hse1 q.mco1source)
       (λ (t : from_hse1 q.mco1source ≡ true). rw (mco1_panics q q.system (pll_at q 0) (pll_at q 1) [] q.mco1source t u.0))
@@ -253,9 +249,9 @@ module _ (q : Request) (c : ChipState) where
       rw (regroup (limited q) (stated q) (system_fits q) (sourced q) (rules q c))
       (by_test (within q.system && (within q.ahb && (within q.apb1 && (within q.apb2 && within q.apb3))))
       (λ (t : within q.system && (within q.ahb && (within q.apb1 && (within q.apb2 && within q.apb3))) ≡ true).
-      by_test (is_set q.hse || not (from_hse1 q.mco1source || from_hse2 q.mco2source))
-      (λ (s : is_set q.hse || not (from_hse1 q.mco1source || from_hse2 q.mco2source) ≡ true).
-      let h = hse_stated (is_set q.hse) (from_hse1 q.mco1source) (from_hse2 q.mco2source) s in
+      by_test (is_some q.hse || not (from_hse1 q.mco1source || from_hse2 q.mco2source))
+      (λ (s : is_some q.hse || not (from_hse1 q.mco1source || from_hse2 q.mco2source) ≡ true).
+      let h = hse_stated (is_some q.hse) (from_hse1 q.mco1source) (from_hse2 q.mco2source) s in
       rw (t, s, setters_end q [] t, mco1_ends h.0, mco2_ends h.1) (filled_agrees (record { one = h.0; two = h.1 })))
-      (λ (f : is_set q.hse || not (from_hse1 q.mco1source || from_hse2 q.mco2source) ≡ false). rw (t, f, setters_end q [] t, unstated f) tt))
+      (λ (f : is_some q.hse || not (from_hse1 q.mco1source || from_hse2 q.mco2source) ≡ false). rw (t, f, setters_end q [] t, unstated f) tt))
       (λ (f : within q.system && (within q.ahb && (within q.apb1 && (within q.apb2 && within q.apb3))) ≡ false). rw (f, setters_panic q [] f) tt))

@@ -1,4 +1,5 @@
 -- `search_m`, the least key of the m from pll_x_m_min to pll_x_m_max, against the smallest M with the least shortfall of all M from 1 to 63.
+use Rattle.std.specs.Prelude.{Option, Some, None}
 use mathlib.Core.Path.{◌≡◌, refl, sym, ap, ◌∙◌}
 use mathlib.Core.List.{List}
 use mathlib.Core.Bool.{true, false}
@@ -11,8 +12,6 @@ use mir.Syntax.{w32}
 use mir.Val.{to_z}
 use borrow.Author.Tests.{leb-true, leb-false, lt-ltb}
 use Rattle.types.specs.declared.Entry.{Entry}
-use Rattle.types.specs.declared.FoundM.{FoundM}
-use Rattle.types.specs.declared.FoundM.TheVariants.{Nothing, M}
 use Rattle.rules.specs.Document01.ChoiceOfM.{in_range, shortfall_of, better_of, best_to}
 use Rattle.laws.proofs.Numbers.{to_z_sub, le_div}
 use Rattle.rules.proofs.Document01.ChoiceOfM.{range_low, range_high, in_range_is, better_out, better_first, better_less, better_not}
@@ -23,12 +22,12 @@ use Rattle.laws.proofs.Tests.{by_test}
 use Rattle.claims.proofs.Agreement.Numbers.{nonzero}
 
 -- what is found, or a panic
-abbrev pub ends_with : List Entry → FoundM → Outcome ℕ
-ends_with es Nothing = panics
-ends_with es (M m) = ends es m
+abbrev pub ends_with : List Entry → Option ℕ → Outcome ℕ
+ends_with es None = panics
+ends_with es (Some m) = ends es m
 
 -- the better of what is found and of each of so many from one on
-pub best_from : (source target low high : ℕ) → FoundM → (from count : ℕ) → FoundM
+pub best_from : (source target low high : ℕ) → Option ℕ → (from count : ℕ) → Option ℕ
 best_from source target low high f from zero = f
 best_from source target low high f from (suc count) = best_from source target low high (better_of source target low high f from) (suc from) count
 
@@ -60,7 +59,7 @@ module _ (source target low high : ℕ) (small : target < 2_147_483_648) (lows :
   less : (from count : ℕ) → AllIn from (suc count) → AllIn (suc from) count
   less from count a m h k = a m (omega arith) (omega arith)
 
-  min_from_is : (best from count : ℕ) (es : List Entry) → 1 ≤ from → AllIn from count → min_from source target best (pos (short best)) from count es ≡ ends_with es (best_from source target low high (M best) from count)
+  min_from_is : (best from count : ℕ) (es : List Entry) → 1 ≤ from → AllIn from count → min_from source target best (pos (short best)) from count es ≡ ends_with es (best_from source target low high (Some best) from count)
   unfolding min_from best_from
   min_from_is best from zero es h a = refl
   min_from_is best from (suc count) es h a =
@@ -69,7 +68,7 @@ module _ (source target low high : ℕ) (small : target < 2_147_483_648) (lows :
       (λ (t : ltb (short from) (short best) ≡ true). rw (key_ends from es h i, t, better_less source target low high best from i t) (min_from_is from (suc from) count es (omega arith) (less from count a)))
       (λ (f : ltb (short from) (short best) ≡ false). rw (key_ends from es h i, f, better_not source target low high best from i f) (min_from_is best (suc from) count es (omega arith) (less from count a)))
 
-  pub min_by_is : (from count : ℕ) (es : List Entry) → 1 ≤ from → AllIn from count → min_by_key source target from count es ≡ ends_with es (best_from source target low high Nothing from count)
+  pub min_by_is : (from count : ℕ) (es : List Entry) → 1 ≤ from → AllIn from count → min_by_key source target from count es ≡ ends_with es (best_from source target low high None from count)
   unfolding min_by_key best_from
   min_by_is from zero es h a = refl
   min_by_is from (suc count) es h a =
@@ -77,7 +76,7 @@ module _ (source target low high : ℕ) (small : target < 2_147_483_648) (lows :
       rw (key_ends from es h i, better_first source target low high from i) (min_from_is from (suc from) count es (omega arith) (less from count a))
 
   -- ---- the fold of the rules, over all from 1
-  abbrev best : ℕ → FoundM
+  abbrev best : ℕ → Option ℕ
   best = best_to source target low high
 
   on : (n count : ℕ) → best_from source target low high (best n) (suc n) count ≡ best (n + count)
@@ -88,10 +87,10 @@ module _ (source target low high : ℕ) (small : target < 2_147_483_648) (lows :
   abbrev Out : ℕ → Type 0
   Out m = in_range source low high m ≡ false
 
-  none_below : (n : ℕ) → ((m : ℕ) → 1 ≤ m → m ≤ n → Out m) → best n ≡ Nothing
+  none_below : (n : ℕ) → ((m : ℕ) → 1 ≤ m → m ≤ n → Out m) → best n ≡ None
   unfolding best_to
   none_below zero o = refl
-  none_below (suc n) o = rw (none_below n (λ m h k. o m h (omega arith)), better_out source target low high Nothing (suc n) (o (suc n) (omega arith) (omega arith)))
+  none_below (suc n) o = rw (none_below n (λ m h k. o m h (omega arith)), better_out source target low high None (suc n) (o (suc n) (omega arith) (omega arith)))
 
   best_suc : (n : ℕ) → best (suc n) ≡ better_of source target low high (best n) (suc n)
   unfolding best_to
@@ -144,19 +143,19 @@ module _ (source target low high : ℕ) (small : target < 2_147_483_648) (lows :
     all_in m h k = within_is m h (omega arith)
 
     -- some are in range: what the Rust searches, then the rest, in which none is
-    some_in : (k : ℕ) → lo ≡ suc k → lo ≤ hi → best_from source target low high Nothing lo (suc hi - lo) ≡ best 63
+    some_in : (k : ℕ) → lo ≡ suc k → lo ≤ hi → best_from source target low high None lo (suc hi - lo) ≡ best 63
     some_in k e l =
-        let p : best k ≡ Nothing = none_below k (λ m h g. below_is m (omega arith)) in
+        let p : best k ≡ None = none_below k (λ m h g. below_is m (omega arith)) in
         let c : k + (suc hi - lo) ≡ hi = omega arith in
         let d : hi + (63 - hi) ≡ 63 = omega arith in
         let a : best_from source target low high (best k) (suc k) (suc hi - lo) ≡ best (k + (suc hi - lo)) = on k (suc hi - lo) in
         let b : best (hi + (63 - hi)) ≡ best hi = none_above hi (63 - hi) (λ m h g. above_is m (omega arith)) in
-        ap (λ (x : ℕ). best_from source target low high Nothing x (suc hi - lo)) e ∙ ap (λ (f : FoundM). best_from source target low high f (suc k) (suc hi - lo)) (sym p) ∙ a ∙ ap best c ∙ sym b ∙ ap best d
+        ap (λ (x : ℕ). best_from source target low high None x (suc hi - lo)) e ∙ ap (λ (f : Option ℕ). best_from source target low high f (suc k) (suc hi - lo)) (sym p) ∙ a ∙ ap best c ∙ sym b ∙ ap best d
 
-    none_in : hi < lo → best 63 ≡ Nothing
+    none_in : hi < lo → best 63 ≡ None
     none_in l = none_below 63 (λ m h g. by_test (leb lo m) (λ t. let a : lo ≤ m = leb-true lo m t in above_is m (omega arith)) (λ f. let a : m < lo = leb-false lo m f in below_is m a))
 
-    pub same_found : (k : ℕ) → lo ≡ suc k → best_from source target low high Nothing lo (suc hi - lo) ≡ best 63
+    pub same_found : (k : ℕ) → lo ≡ suc k → best_from source target low high None lo (suc hi - lo) ≡ best 63
     unfolding best_from
     same_found k e =
         by_test (leb lo hi) (λ t. some_in k e (leb-true lo hi t))

@@ -1,4 +1,5 @@
 -- `vco_output_divider_setup` against document 01, One PLL, refusals 7 to 11.
+use Rattle.std.specs.Prelude.{Option, Some, None}
 use mathlib.Core.Path.{◌≡◌, refl, ◌∙◌}
 use mathlib.Core.List.{List}
 use mathlib.Core.Logic.{⊎_elim}
@@ -8,11 +9,7 @@ use native.Mathlib.Omega.{arith}
 use lib.Dec.{leb, ltb, eqb}
 use borrow.Author.Tests.{ltb-true, ltb-false, le-leb, le-ltb, not-false}
 use Rattle.types.specs.declared.Entry.{Entry}
-use Rattle.types.specs.declared.Hertz.{Hertz}
-use Rattle.types.specs.declared.Hertz.TheVariants.{Unset, Hz}
 use Rattle.types.specs.declared.PllRequest.{PllRequest}
-use Rattle.types.specs.declared.FoundM.{FoundM}
-use Rattle.types.specs.declared.FoundM.TheVariants.{Nothing, M}
 use Rattle.rules.specs.Document01.ChoiceOfM.{chosen_m, Admissible}
 use Rattle.rules.specs.Document01.Target.{target_of}
 use Rattle.rules.proofs.Document01.ChoiceOfM.{chosen_some, admits}
@@ -22,7 +19,7 @@ use Rattle.rules.specs.Document01.OnePll.{wanted, none_zero, counted_outputs, le
 use Rattle.claims.proofs.Legal.OnePll.{Good, range_good}
 use Rattle.claims.specs.Rust.Run.{Outcome, panics, ends, assert, contains}
 use Rattle.claims.specs.Rust.Pll as Pll
-use Rattle.claims.specs.Rust.Pll.{VcoRange, None, Some, PllSetup, mapped, outputs_of, fold_min, fold_max, find_range, output_div, target_setup, divider_setup, range_setup, vco_output_divider_setup}
+use Rattle.claims.specs.Rust.Pll.{VcoRange, PllSetup, mapped, outputs_of, fold_min, fold_max, find_range, output_div, target_setup, divider_setup, range_setup, vco_output_divider_setup}
 use Rattle.claims.specs.Rust.Rcc.{pll_config}
 use Rattle.laws.proofs.Tests.{and_left, and_right, by_test}
 use Rattle.claims.proofs.Agreement.Agree.{all_panic}
@@ -45,17 +42,17 @@ range_panics : (most : ℕ) (es : List Entry) → ltb most 560_000_000 ≡ false
 range_panics most es f = let l : 560_000_000 ≤ most = ltb-false most 560_000_000 f in rw (le-ltb most 420_000_000 (omega arith), f)
 
 -- ---- an output's divider
-abbrev pub output_rust : ℕ → Hertz → Pll.PllOutput
-output_rust target Unset = None
-output_rust target (Hz ck) = Some ck (target / ck)
+abbrev pub output_rust : ℕ → Option ℕ → Option Pll.PllOutput
+output_rust target None = None
+output_rust target (Some ck) = Some (record { ck = ck; div = target / ck })
 
-divided : (target : ℕ) (h : Hertz) (es : List Entry) → Pos h → output_div target h es ≡ ends es (output_rust target h)
-divided target Unset es p = refl
-divided target (Hz ck) es p = rw (nonzero ck p)
+divided : (target : ℕ) (h : Option ℕ) (es : List Entry) → Pos h → output_div target h es ≡ ends es (output_rust target h)
+divided target None es p = refl
+divided target (Some ck) es p = rw (nonzero ck p)
 
-zero_divided : (target : ℕ) (h : Hertz) (es : List Entry) → not_zero h ≡ false → output_div target h es ≡ panics
-zero_divided target Unset es f = absurd (let z : ◌≡◌ {A = ℕ} 0 1 = cc in omega arith)
-zero_divided target (Hz ck) es f = rw (not-false (eqb ck 0) f)
+zero_divided : (target : ℕ) (h : Option ℕ) (es : List Entry) → not_zero h ≡ false → output_div target h es ≡ panics
+zero_divided target None es f = absurd (let z : ◌≡◌ {A = ℕ} 0 1 = cc in omega arith)
+zero_divided target (Some ck) es f = rw (not-false (eqb ck 0) f)
 
 -- refusal 7: an output of 0 Hz panics, at its divider if not before
 zero_setup : (source : ℕ) (a : PllRequest) (g : VcoRange) (target : ℕ) (es : List Entry) → none_zero a ≡ false → divider_setup source (pll_config a) g target es ≡ panics
@@ -97,9 +94,9 @@ setup_of source a g target m = record {
   pll_r = output_rust target a.r;
 }
 
-abbrev pub setup_ends : (source : ℕ) → PllRequest → Range → (target : ℕ) → List Entry → FoundM → Outcome PllSetup
-setup_ends source a g target es Nothing = panics
-setup_ends source a g target es (M m) = ends es (setup_of source a g target m)
+abbrev pub setup_ends : (source : ℕ) → PllRequest → Range → (target : ℕ) → List Entry → Option ℕ → Outcome PllSetup
+setup_ends source a g target es None = panics
+setup_ends source a g target es (Some m) = ends es (setup_of source a g target m)
 
 module _ (source : ℕ) (a : PllRequest) (odd : Bool) (es : List Entry) (some : 1 ≤ source) (w : wanted a ≡ true) (n : none_zero a ≡ true) where
   abbrev low : ℕ
@@ -176,15 +173,15 @@ module _ (source : ℕ) (a : PllRequest) (odd : Bool) (es : List Entry) (some : 
     outside_panics f = vco_panics (to_divider ∙ rw (contains_is g.start g.end target, f))
 
     module _ (t10 : leb g.start target && leb target g.end ≡ true) where
-      abbrev choice : FoundM
+      abbrev choice : Option ℕ
       choice = chosen_m source target g.low g.high
 
       -- 11, and M
-      divider_ends : (f : FoundM) → choice ≡ f → divider_setup source (pll_config a) (range_rust g) target es ≡ setup_ends source a g target es f
+      divider_ends : (f : Option ℕ) → choice ≡ f → divider_setup source (pll_config a) (range_rust g) target es ≡ setup_ends source a g target es f
       unfolding divider_setup
-      divider_ends Nothing e =
+      divider_ends None e =
           rw (contains_is g.start g.end target, t10, divided target a.p es pos_p, divided target a.q es pos_q, divided target a.r es pos_r, search_is source target (range_rust g) es small good.lows good.highs some, e)
-      divider_ends (M m) e =
+      divider_ends (Some m) e =
           let c : Admissible source g.low g.high m = (chosen_some source target g.low g.high m e).admissible in
           let i = admits source g.low g.high c in
           let one : 1 ≤ m = c.above in

@@ -1,18 +1,15 @@
 -- The register operations after the PLLs' setup, against the segments of document 01's list.
+use Rattle.std.specs.Prelude.{Option, Some, None}
 use mathlib.Core.Path.{◌≡◌, refl, ap, ◌∙◌}
 use mathlib.Core.List.{List, [], ◌∷◌, ◌++◌, append_assoc, append-nil}
 use mathlib.Core.Bool.{Bool, true, false, cond}
 use Prim.Native.Nat.{ℕ, ◌≤◌}
 use borrow.Author.Tests.{le-leb}
+use Rattle.types.specs.declared.PllSettings.{PllSettings}
 use Rattle.types.specs.declared.Entry.{Entry}
 use Rattle.types.specs.declared.Entry.TheVariants.{Set, Set2, Set3, Set4, Wait}
-use Rattle.types.specs.declared.Hertz.{Hertz}
-use Rattle.types.specs.declared.Hertz.TheVariants.{Unset, Hz}
 use Rattle.types.specs.declared.PllRequest.{PllRequest}
 use Rattle.types.specs.declared.PllOutput.{PllOutput}
-use Rattle.types.specs.declared.PllOutput.TheVariants.{Off, On}
-use Rattle.types.specs.declared.Pll.{Pll}
-use Rattle.types.specs.declared.Pll.TheVariants.{Idle, Runs}
 use Rattle.types.specs.declared.Request.{Request}
 use Rattle.types.specs.declared.Scale.{Scale}
 use Rattle.types.specs.declared.ChipState.{ChipState}
@@ -32,16 +29,15 @@ use Rattle.claims.proofs.Agreement.Config.{config_after}
 use Rattle.claims.proofs.Agreement.Mcos.{mcos_rust, clocks_of}
 use Rattle.claims.proofs.Agreement.Flash.{flash_same}
 use Rattle.types.specs.declared.Mcos.{Mcos}
-use Rattle.types.specs.declared.PllPlan.{PllPlan}
 
 -- ---- HSE
 bit_is : (b : Bool) → cond b 1 0 ≡ bit b
 bit_is true = refl
 bit_is false = refl
 
-hse_ends : (h : Hertz) (bypass : Bool) (es : List Entry) → enable_hse h bypass es ≡ ends (es ++ hse_entries h bypass) tt
-hse_ends Unset bypass es = rw (append-nil es)
-hse_ends (Hz h) bypass es = rw (bit_is bypass, append_assoc es (Set2 Fields.HSEON 1 Fields.HSEBYP (bit bypass) ∷ []) (Wait Fields.HSERDY 1 ∷ []))
+hse_ends : (h : Option ℕ) (bypass : Bool) (es : List Entry) → enable_hse h bypass es ≡ ends (es ++ hse_entries h bypass) tt
+hse_ends None bypass es = rw (append-nil es)
+hse_ends (Some h) bypass es = rw (bit_is bypass, append_assoc es (Set2 Fields.HSEON 1 Fields.HSEBYP (bit bypass) ∷ []) (Wait Fields.HSERDY 1 ∷ []))
 
 -- ---- flash, CSI, HSI48, MCOs and HSE
 abbrev pub clock_tail : Waits → Request → Mcos → List Entry
@@ -58,35 +54,35 @@ clocks_end s q asked1 b m es h =
     (ap (λ (l : List Entry). ends l tt) (simp append_assoc))
 
 -- ---- the PLLs' sources and starts
-src_is : (h : Hertz) → pllsrc h ≡ src_of h
-src_is Unset = refl
-src_is (Hz h) = refl
+src_is : (h : Option ℕ) → pllsrc h ≡ src_of h
+src_is None = refl
+src_is (Some h) = refl
 
-output_starts : (k : ℕ) (o : PllOutput) (es : List Entry) → enable_pll k (clock_of o) es ≡ ends (es ++ output_start k o) tt
-output_starts k Off es = rw (append-nil es)
-output_starts k (On d h) es = rw (append_assoc es (Set (of_pll k Fields.ON) 1 ∷ []) (Wait (of_pll k Fields.RDY) 1 ∷ []))
+output_starts : (k : ℕ) (o : Option PllOutput) (es : List Entry) → enable_pll k (clock_of o) es ≡ ends (es ++ output_start k o) tt
+output_starts k None es = rw (append-nil es)
+output_starts k (Some o) es = rw (append_assoc es (Set (of_pll k Fields.ON) 1 ∷ []) (Wait (of_pll k Fields.RDY) 1 ∷ []))
 
-pll_starts : (k : ℕ) (x : Pll) (es : List Entry) → enable_pll k (p_clock x) es ≡ ends (es ++ start_entries k x) tt
-pll_starts k Idle es = rw (append-nil es)
-pll_starts k (Runs s) es = output_starts k s.p es
+pll_starts : (k : ℕ) (x : Option PllSettings) (es : List Entry) → enable_pll k (p_clock x) es ≡ ends (es ++ start_entries k x) tt
+pll_starts k None es = rw (append-nil es)
+pll_starts k (Some s) es = output_starts k s.p es
 
-abbrev pub pll_tail : Request → Bool → List PllPlan → List Entry
+abbrev pub pll_tail : Request → Bool → List (Option PllSettings) → List Entry
 pll_tail q three l =
     source_entries three (src_of q.hse)
     ++ (start_entries 0 (pll_from l 0) ++ (start_entries 1 (pll_from l 1) ++ start_entries 2 (pll_from l 2)))
 
-three_end : (q : Request) (asked1 : PllRequest) (c : ChipState) (l : List PllPlan) (es : List Entry) → c.three ≡ true → start_plls c (config_after q asked1) (clocks_of l) es ≡ ends (es ++ pll_tail q true l) tt
+three_end : (q : Request) (asked1 : PllRequest) (c : ChipState) (l : List (Option PllSettings)) (es : List Entry) → c.three ≡ true → start_plls c (config_after q asked1) (clocks_of l) es ≡ ends (es ++ pll_tail q true l) tt
 unfolding start_plls
 three_end q asked1 c l es t =
     rw (t, src_is q.hse, pll_starts 0 (pll_from l 0), pll_starts 1 (pll_from l 1), pll_starts 2 (pll_from l 2))
     (ap (λ (x : List Entry). ends x tt) (simp append_assoc))
 
-two_end : (q : Request) (asked1 : PllRequest) (c : ChipState) (l : List PllPlan) (es : List Entry) → c.three ≡ false → pll_from l 2 ≡ Idle → start_plls c (config_after q asked1) (clocks_of l) es ≡ ends (es ++ pll_tail q false l) tt
+two_end : (q : Request) (asked1 : PllRequest) (c : ChipState) (l : List (Option PllSettings)) (es : List Entry) → c.three ≡ false → pll_from l 2 ≡ None → start_plls c (config_after q asked1) (clocks_of l) es ≡ ends (es ++ pll_tail q false l) tt
 unfolding start_plls
 two_end q asked1 c l es f i =
     rw (f, i, src_is q.hse, pll_starts 0 (pll_from l 0), pll_starts 1 (pll_from l 1))
     (ap (λ (x : List Entry). ends x tt) (simp (append_assoc, append-nil)))
 
-pub plls_end : (q : Request) (asked1 : PllRequest) (c : ChipState) (l : List PllPlan) (es : List Entry) → (c.three ≡ false → pll_from l 2 ≡ Idle) → start_plls c (config_after q asked1) (clocks_of l) es ≡ ends (es ++ pll_tail q c.three l) tt
+pub plls_end : (q : Request) (asked1 : PllRequest) (c : ChipState) (l : List (Option PllSettings)) (es : List Entry) → (c.three ≡ false → pll_from l 2 ≡ None) → start_plls c (config_after q asked1) (clocks_of l) es ≡ ends (es ++ pll_tail q c.three l) tt
 plls_end q asked1 c l es h =
     by_test c.three (λ (t : c.three ≡ true). three_end q asked1 c l es t ∙ rw t) (λ (f : c.three ≡ false). two_end q asked1 c l es f (h f) ∙ rw f)

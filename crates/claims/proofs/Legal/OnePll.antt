@@ -1,4 +1,5 @@
 -- A PLL that is planned has legal numbers: the laws of a range and of the dividers, and what `pll_of` comes to.
+use Rattle.std.specs.Prelude.{Option, Some, None, Result, Ok, Err, unwrap_or, is_some}
 use mathlib.Core.Path.{◌≡◌, refl, sym, ap, subst, ◌∙◌}
 use mathlib.Core.Logic.{◌⊎◌, inl, inr, ⊎_elim}
 use mathlib.Core.Bool.{Bool, true, false, ◌&&◌, ◌||◌}
@@ -9,19 +10,13 @@ use lib.Dec.{leb, ltb, eqb, lit≤, lit<}
 use lib.Ieee.{Float, le, of_int, to_unsigned}
 use lib.Ieee.Casts.{to_unsigned-lt}
 use borrow.Author.Tests.{leb-true, le-leb, ltb-true, ltb-false}
-use Rattle.types.specs.declared.Hertz.{Hertz}
-use Rattle.types.specs.declared.Hertz.TheVariants.{Unset, Hz}
+use Rattle.std.specs.Option.{option_or}
+use Rattle.types.specs.declared.Refusal.{Refusal}
 use Rattle.types.specs.declared.Strategy.{Strategy}
 use Rattle.types.specs.declared.Strategy.TheVariants.{Integer, Fractional}
 use Rattle.types.specs.declared.PllRequest.{PllRequest}
 use Rattle.types.specs.declared.PllSettings.{PllSettings}
-use Rattle.types.specs.declared.Fraction.{Fraction}
-use Rattle.types.specs.declared.Fraction.TheVariants.{Whole, Part}
-use Rattle.types.specs.declared.Fracn.{Fracn}
-use Rattle.types.specs.declared.Fracn.TheVariants.{Value, OutOfRange}
 use Rattle.types.specs.declared.Refusal.TheVariants.{NOutside}
-use Rattle.types.specs.declared.FoundM.{FoundM}
-use Rattle.types.specs.declared.FoundM.TheVariants.{Nothing, M}
 use Rattle.rules.specs.Document01.ChoiceOfM.{chosen_m, Admissible}
 use Rattle.rules.specs.Document01.Target.{target_of}
 use Rattle.rules.proofs.Document01.ChoiceOfM.{chosen_some}
@@ -32,8 +27,8 @@ use Rattle.ieee754.proofs.Same.{fracn_same, vco_same}
 use Rattle.ieee754.proofs.Near.{fracn_below}
 use Rattle.laws.proofs.Numbers.{le_div, div_le, below, above}
 use Rattle.ieee754.proofs.Cut.{cut_in, zero8191}
-use Rattle.rules.specs.Document01.Result.{Result, refused, ok, ◌>>◌}
-use Rattle.rules.specs.Document01.Hertz.{is_set, hertz_or, or_else, not_zero}
+use Rattle.rules.specs.Document01.Result.{◌>>◌}
+use Rattle.rules.specs.Document01.Hertz.{not_zero}
 use Rattle.rules.specs.Document01.OnePll.{wanted, none_zero, counted_p, counted_outputs, least, largest, Range, medium, wide, range_of, rge_of, first_of, taken, fraction_of, vco_by, output_of, divider_p, allowed_p, spanned, divided_by, settings_of, settled, runs, running, pll_of}
 use Rattle.claims.specs.Demands.Legal.{LegalOutput, LegalP, divider_or, first_divider, LegalVco, Legal, LegalPll}
 use Rattle.rules.specs.Manual.PllFields.{rge_span, vco_span, input_span, Within, FieldFracn}
@@ -59,18 +54,18 @@ range_good most t =
 
 -- ---- a divider
 -- from 1 to 128
-abbrev pub Divides : ℕ → Hertz → Type 0
-Divides target Unset = Unit {0}
-Divides target (Hz h) = (1 ≤ target / h) × (target / h ≤ 128)
+abbrev pub Divides : ℕ → Option ℕ → Type 0
+Divides target None = Unit {0}
+Divides target (Some h) = (1 ≤ target / h) × (target / h ≤ 128)
 
 -- P's divider is at least 1; whether it is at most 128 is refusal 14
-abbrev pub SomeDivider : ℕ → Hertz → Type 0
-SomeDivider target Unset = Unit {0}
-SomeDivider target (Hz h) = 1 ≤ target / h
+abbrev pub SomeDivider : ℕ → Option ℕ → Type 0
+SomeDivider target None = Unit {0}
+SomeDivider target (Some h) = 1 ≤ target / h
 
-pub divides_p : (target : ℕ) (h : Hertz) → SomeDivider target h → leb (divider_p target h) 128 ≡ true → Divides target h
-divides_p target Unset d t = tt
-divides_p target (Hz h) d t = (d, leb-true (target / h) 128 t)
+pub divides_p : (target : ℕ) (h : Option ℕ) → SomeDivider target h → leb (divider_p target h) 128 ≡ true → Divides target h
+divides_p target None d t = tt
+divides_p target (Some h) d t = (d, leb-true (target / h) 128 t)
 
 -- an output is at most what it counts
 counts : (odd : Bool) (h : ℕ) → h ≤ counted_p odd h
@@ -79,18 +74,18 @@ counts false h = omega arith
 
 -- the dividers, where the target is in its range
 module _ (low most : ℕ) (g : Range) (a1 : 1 ≤ low) (a2 : low ≤ most) (a3 : Good g most) (a4 : most / 128 ≤ low) (a5 : 128_000_000 ≤ target_of low most g.end) where
-  pub divider_p_is : (odd : Bool) (h : Hertz) → Inside (counted_p odd) low most h → Pos h → SomeDivider (target_of low most g.end) h
-  divider_p_is odd Unset i p = tt
-  divider_p_is odd (Hz h) i p = divider_pos low most g.end a1 a2 a3.above a3.to a4 a5 h p (le_trans (counts odd h) i.1)
+  pub divider_p_is : (odd : Bool) (h : Option ℕ) → Inside (counted_p odd) low most h → Pos h → SomeDivider (target_of low most g.end) h
+  divider_p_is odd None i p = tt
+  divider_p_is odd (Some h) i p = divider_pos low most g.end a1 a2 a3.above a3.to a4 a5 h p (le_trans (counts odd h) i.1)
 
-  pub divider_q : (h : Hertz) → Inside (λ h. h) low most h → Pos h → Divides (target_of low most g.end) h
-  divider_q Unset i p = tt
-  divider_q (Hz h) i p = (divider_pos low most g.end a1 a2 a3.above a3.to a4 a5 h p i.1, divider_le low most g.end a1 h i.0)
+  pub divider_q : (h : Option ℕ) → Inside (λ h. h) low most h → Pos h → Divides (target_of low most g.end) h
+  divider_q None i p = tt
+  divider_q (Some h) i p = (divider_pos low most g.end a1 a2 a3.above a3.to a4 a5 h p i.1, divider_le low most g.end a1 h i.0)
 
 -- ---- FRACN
-abbrev Bounded : Fraction → Type 0
-Bounded Whole = Unit {0}
-Bounded (Part f) = FieldFracn f
+abbrev Bounded : Option ℕ → Type 0
+Bounded None = Unit {0}
+Bounded (Some f) = FieldFracn f
 
 fraction_bounded : (s : Strategy) (ref n d o : ℕ) → Holds Bounded (fraction_of s ref n d o)
 unfolding fracn_of of_int
@@ -108,16 +103,16 @@ fraction_bounded Fractional ref n d o =
     (λ (n : le (float 0) f ≡ false). rw n tt)
 
 -- the same FRACN over whole numbers, in Fractional and only there
-abbrev InWhole : Strategy → (ref n d o : ℕ) → Fraction → Type 0
-InWhole Integer ref n d o Whole = Unit {0}
-InWhole Integer ref n d o (Part f) = ⊥
-InWhole Fractional ref n d o Whole = ⊥
-InWhole Fractional ref n d o (Part f) = fracn_whole ref n d o ≡ Value f
+abbrev InWhole : Strategy → (ref n d o : ℕ) → Option ℕ → Type 0
+InWhole Integer ref n d o None = Unit {0}
+InWhole Integer ref n d o (Some f) = ⊥
+InWhole Fractional ref n d o None = ⊥
+InWhole Fractional ref n d o (Some f) = fracn_whole ref n d o ≡ Some f
 
 module _ (ref n d o : ℕ) (r1 : 0 < ref) (r32 : ref < 2 ^ 32) (n32 : n < 2 ^ 32) (d32 : d < 2 ^ 32) (o32 : o < 2 ^ 32) where
-  taken_whole : (v : Fracn) → fracn_of (float ref) (float n) (float d) (float o) ≡ v → Holds (InWhole Fractional ref n d o) (taken v)
-  taken_whole (Value f) e = sym (fracn_same ref n d o r1 r32 n32 d32 o32) ∙ e
-  taken_whole OutOfRange e = tt
+  taken_whole : (v : Option ℕ) → fracn_of (float ref) (float n) (float d) (float o) ≡ v → Holds (InWhole Fractional ref n d o) (taken v)
+  taken_whole (Some f) e = sym (fracn_same ref n d o r1 r32 n32 d32 o32) ∙ e
+  taken_whole None e = tt
 
   fraction_whole : (s : Strategy) → Holds (InWhole s ref n d o) (fraction_of s ref n d o)
   fraction_whole Integer = tt
@@ -141,13 +136,13 @@ rge_within source m h l u =
     down k f = (le-div_iff_mul-le {k = m} {x = k} {y = source} h).0 (ltb-false (source / m) k f)
 
 -- ---- the outputs
-output_legal : (target vco : ℕ) (h : Hertz) → Divides target h → LegalOutput vco h (output_of target vco h)
-output_legal target vco Unset d = tt
-output_legal target vco (Hz h) d = record { some = d.0; field = let l : target / h ≤ 128 = d.1 in omega arith; hertz = refl }
+output_legal : (target vco : ℕ) (h : Option ℕ) → Divides target h → LegalOutput vco h (output_of target vco h)
+output_legal target vco None d = tt
+output_legal target vco (Some h) d = record { some = d.0; field = let l : target / h ≤ 128 = d.1 in omega arith; hertz = refl }
 
-p_legal : (odd : Bool) (target vco : ℕ) (h : Hertz) → SomeDivider target h → leb (divider_p target h) 128 ≡ true → odd || eqb (divider_p target h % 2) 0 ≡ true → LegalP odd (output_of target vco h)
-p_legal odd target vco Unset s t e = tt
-p_legal odd target vco (Hz h) s t e =
+p_legal : (odd : Bool) (target vco : ℕ) (h : Option ℕ) → SomeDivider target h → leb (divider_p target h) 128 ≡ true → odd || eqb (divider_p target h % 2) 0 ≡ true → LegalP odd (output_of target vco h)
+p_legal odd target vco None s t e = tt
+p_legal odd target vco (Some h) s t e =
     let l : target / h ≤ 128 = leb-true (target / h) 128 t in
     let back : target / h - 1 + 1 ≡ target / h = omega arith in
     rw (le-leb (target / h - 1) 127 (omega arith), back) e
@@ -165,7 +160,7 @@ module _ (odd : Bool) (source : ℕ) (a : PllRequest) (g : Range) (target m : �
   abbrev n : ℕ
   n = target / ref
 
-  abbrev settings : Fraction → PllSettings
+  abbrev settings : Option ℕ → PllSettings
   settings f = settings_of a g target m ref n f
 
   -- M × low ≤ source ≤ M × high, and what that gives of the reference
@@ -219,7 +214,7 @@ module _ (odd : Bool) (source : ℕ) (a : PllRequest) (g : Range) (target m : �
   ref_most : ref ≤ 16_000_000
   ref_most = div_le m (subst (λ (x : ℕ). source ≤ x) (mul_comm 16_000_000 m) ends.1)
 
-  part_high : (f : ℕ) → 4 ≤ n → n ≤ 512 → target / first_of a ≤ 128 → fracn_whole ref n (target / first_of a) (first_of a) ≡ Value f → source * (8192 * n + f) < (8192 * (g.end + 98) + (8192 * n + f)) * m
+  part_high : (f : ℕ) → 4 ≤ n → n ≤ 512 → target / first_of a ≤ 128 → fracn_whole ref n (target / first_of a) (first_of a) ≡ Some f → source * (8192 * n + f) < (8192 * (g.end + 98) + (8192 * n + f)) * m
   part_high f four most few v =
       let od : first_of a * (target / first_of a) ≤ g.end = le_trans (mul-div-le target (first_of a)) en in
       let l : ref * (8192 * n + f) ≤ 8192 * (g.end + 98) = fracn_below ref n (target / first_of a) (first_of a) g.end sixty_fours.0 f ref_some ref_most most few od small sixty_fours.1 v in
@@ -237,42 +232,42 @@ module _ (odd : Bool) (source : ℕ) (a : PllRequest) (g : Range) (target m : �
           omega arith
 
   -- the first divider that is on
-  first_divider_is : (f : Fraction) → wanted a ≡ true → first_divider (settings f) ≡ target / first_of a
+  first_divider_is : (f : Option ℕ) → wanted a ≡ true → first_divider (settings f) ≡ target / first_of a
   first_divider_is f w = go a.p a.q a.r w
     where
-      go : (p q r : Hertz) → is_set p || (is_set q || is_set r) ≡ true → divider_or (output_of target (vco_by f ref n) p) (divider_or (output_of target (vco_by f ref n) q) (divider_or (output_of target (vco_by f ref n) r) 0)) ≡ target / hertz_or (or_else p (or_else q r)) 0
-      go (Hz p) q r w = refl
-      go Unset (Hz q) r w = refl
-      go Unset Unset (Hz r) w = refl
-      go Unset Unset Unset w = absurd (never (sym w))
+      go : (p q r : Option ℕ) → is_some p || (is_some q || is_some r) ≡ true → divider_or (output_of target (vco_by f ref n) p) (divider_or (output_of target (vco_by f ref n) q) (divider_or (output_of target (vco_by f ref n) r) 0)) ≡ target / unwrap_or (option_or p (option_or q r)) 0
+      go (Some p) q r w = refl
+      go None (Some q) r w = refl
+      go None None (Some r) w = refl
+      go None None None w = absurd (never (sym w))
 
   first_few : Divides target a.p → target / first_of a ≤ 128
   first_few d = go a.p a.q a.r d dq dr wants
     where
-      go : (p q r : Hertz) → Divides target p → Divides target q → Divides target r → is_set p || (is_set q || is_set r) ≡ true → target / hertz_or (or_else p (or_else q r)) 0 ≤ 128
-      go (Hz p) q r i j k w = i.1
-      go Unset (Hz q) r i j k w = j.1
-      go Unset Unset (Hz r) i j k w = k.1
-      go Unset Unset Unset i j k w = absurd (never (sym w))
+      go : (p q r : Option ℕ) → Divides target p → Divides target q → Divides target r → is_some p || (is_some q || is_some r) ≡ true → target / unwrap_or (option_or p (option_or q r)) 0 ≤ 128
+      go (Some p) q r i j k w = i.1
+      go None (Some q) r i j k w = j.1
+      go None None (Some r) i j k w = k.1
+      go None None None i j k w = absurd (never (sym w))
 
   -- FRACN, and the VCO
-  vco_legal : (s : Strategy) (f : Fraction) → 4 ≤ n → n ≤ 512 → Divides target a.p → Bounded f → InWhole s ref n (target / first_of a) (first_of a) f → LegalVco s source (first_of a) (settings f) f
-  vco_legal Integer Whole four most d b w =
+  vco_legal : (s : Strategy) (f : Option ℕ) → 4 ≤ n → n ≤ 512 → Divides target a.p → Bounded f → InWhole s ref n (target / first_of a) (first_of a) f → LegalVco s source (first_of a) (settings f) f
+  vco_legal Integer None four most d b w =
       let span = (spans g kind).1 in
       let below : ref * n ≤ target = mul-div-le target ref in
       let above : target < ref * n + ref = n_from in
       record { product = refl; from = rw span (omega arith); to = rw span (omega arith); exact_from = rw span exact_low; exact_to = rw span (exact_high four) }
-  vco_legal Integer (Part f) four most d b w = w
-  vco_legal Fractional Whole four most d b w = w
-  vco_legal Fractional (Part f) four most d b w = record {
+  vco_legal Integer (Some f) four most d b w = w
+  vco_legal Fractional None four most d b w = w
+  vco_legal Fractional (Some f) four most d b w = record {
     field = b;
-    fracn = rw (first_divider_is (Part f) wants) w;
+    fracn = rw (first_divider_is (Some f) wants) w;
     vco = vco_same ref n f ref_32 n_32 (let l : f ≤ 8191 = b in omega arith);
     exact_from = rw (spans g kind).1 (let l = exact_low in let e : source * (8192 * n + f) ≡ 8192 * (source * n) + source * f = omega arith in omega arith);
     exact_to = rw (spans g kind).1 (part_high f four most (first_few d) w);
   }
 
-  allowed_legal : (f : Fraction) → Bounded f → InWhole a.strategy ref n (target / first_of a) (first_of a) f → leb 4 n && leb n 512 ≡ true → Holds (Legal odd source a) (allowed_p odd (divider_p target a.p) >> ok (settings f))
+  allowed_legal : (f : Option ℕ) → Bounded f → InWhole a.strategy ref n (target / first_of a) (first_of a) f → leb 4 n && leb n 512 ≡ true → Holds (Legal odd source a) (allowed_p odd (divider_p target a.p) >> Ok (settings f))
   allowed_legal f b w t =
       let four : 4 ≤ n = leb-true 4 n (and_left (leb 4 n) (leb n 512) t) in
       let most : n ≤ 512 = leb-true n 512 (and_right (leb 4 n) (leb n 512) t) in
@@ -308,11 +303,11 @@ module _ (odd : Bool) (source : ℕ) (a : PllRequest) (g : Range) (target m : �
       (λ f k. allowed_legal f k.0 k.1 t))
 
 -- the first requested output is at most the largest
-first_most : (odd : Bool) (p q r : Hertz) (low most : ℕ) → Inside (counted_p odd) low most p → Inside (λ h. h) low most q → Inside (λ h. h) low most r → hertz_or (or_else p (or_else q r)) 0 ≤ most
-first_most odd (Hz p) q r low most i j k = le_trans (counts odd p) i.1
-first_most odd Unset (Hz q) r low most i j k = j.1
-first_most odd Unset Unset (Hz r) low most i j k = k.1
-first_most odd Unset Unset Unset low most i j k = omega arith
+first_most : (odd : Bool) (p q r : Option ℕ) (low most : ℕ) → Inside (counted_p odd) low most p → Inside (λ h. h) low most q → Inside (λ h. h) low most r → unwrap_or (option_or p (option_or q r)) 0 ≤ most
+first_most odd (Some p) q r low most i j k = le_trans (counts odd p) i.1
+first_most odd None (Some q) r low most i j k = j.1
+first_most odd None None (Some r) low most i j k = k.1
+first_most odd None None None low most i j k = omega arith
 
 module _ (odd : Bool) (source : ℕ) (a : PllRequest) (w : wanted a ≡ true) where
   abbrev low : ℕ
@@ -327,7 +322,7 @@ module _ (odd : Bool) (source : ℕ) (a : PllRequest) (w : wanted a ≡ true) wh
   abbrev target : ℕ
   target = target_of low most g.end
 
-  after_span : none_zero a ≡ true → leb (most / 128) low ≡ true → ltb most 560_000_000 ≡ true → leb g.start target && leb target g.end ≡ true → (m : ℕ) → chosen_m source target g.low g.high ≡ M m → Holds (Legal odd source a) (settled odd a g target m (source / m) (target / (source / m)))
+  after_span : none_zero a ≡ true → leb (most / 128) low ≡ true → ltb most 560_000_000 ≡ true → leb g.start target && leb target g.end ≡ true → (m : ℕ) → chosen_m source target g.low g.high ≡ Some m → Holds (Legal odd source a) (settled odd a g target m (source / m) (target / (source / m)))
   after_span z t8 t9 t10 m e =
       let pp : Pos a.p = pos_is a.p (and_left (not_zero a.p) _ z) in
       let pq : Pos a.q = pos_is a.q (and_left (not_zero a.q) _ (and_right (not_zero a.p) _ z)) in
@@ -345,10 +340,10 @@ module _ (odd : Bool) (source : ℕ) (a : PllRequest) (w : wanted a ≡ true) wh
       (divider_q low most g sp.above sp.order gd far t1 a.q sp.in_q pq)
       (divider_q low most g sp.above sp.order gd far t1 a.r sp.in_r pr)
 
-  by_choice : none_zero a ≡ true → leb (most / 128) low ≡ true → ltb most 560_000_000 ≡ true → leb g.start target && leb target g.end ≡ true → (f : FoundM) → chosen_m source target g.low g.high ≡ f → Holds (Legal odd source a) (runs odd source a)
+  by_choice : none_zero a ≡ true → leb (most / 128) low ≡ true → ltb most 560_000_000 ≡ true → leb g.start target && leb target g.end ≡ true → (f : Option ℕ) → chosen_m source target g.low g.high ≡ f → Holds (Legal odd source a) (runs odd source a)
   unfolding runs spanned divided_by
-  by_choice z t8 t9 t10 Nothing e = rw (z, t8, t9, t10, e) tt
-  by_choice z t8 t9 t10 (M m) e = rw (z, t8, t9, t10, e) (after_span z t8 t9 t10 m e)
+  by_choice z t8 t9 t10 None e = rw (z, t8, t9, t10, e) tt
+  by_choice z t8 t9 t10 (Some m) e = rw (z, t8, t9, t10, e) (after_span z t8 t9 t10 m e)
 
   runs_legal : Holds (Legal odd source a) (runs odd source a)
   unfolding runs spanned divided_by
@@ -362,9 +357,9 @@ module _ (odd : Bool) (source : ℕ) (a : PllRequest) (w : wanted a ≡ true) wh
       (λ (f : leb (most / 128) low ≡ false). rw (z, f) tt))
       (λ (f : none_zero a ≡ false). rw f tt)
 
-running_legal : (odd : Bool) (source : ℕ) (a : PllRequest) (x : Result PllSettings) → Holds (Legal odd source a) x → Holds (LegalPll odd source a) (running x)
-running_legal odd source a (refused n) h = tt
-running_legal odd source a (ok s) h = h
+running_legal : (odd : Bool) (source : ℕ) (a : PllRequest) (x : Result PllSettings Refusal) → Holds (Legal odd source a) x → Holds (LegalPll odd source a) (running x)
+running_legal odd source a (Err n) h = tt
+running_legal odd source a (Ok s) h = h
 
 -- a PLL that is planned is idle or legal
 pub pll_legal : (odd : Bool) (source : ℕ) (a : PllRequest) → Holds (LegalPll odd source a) (pll_of odd source a)

@@ -1,26 +1,22 @@
 -- Every plan is legal: demand 2, the manuals and IEEE 754.
-use mathlib.Core.Path.{◌≡◌, refl}
+use Rattle.std.specs.Prelude.{Option, None, Ok}
+use mathlib.Core.Path.{◌≡◌, refl, subst}
 use mathlib.Core.Bool.{Bool, true, false, cond}
-use Prim.Native.Nat.{ℕ}
-use native.Mathlib.Omega.{arith}
-use Rattle.types.specs.declared.Pll.TheVariants.{Idle}
+use Rattle.types.specs.declared.PllSettings.{PllSettings}
 use Rattle.types.specs.declared.Request.{Request}
 use Rattle.types.specs.declared.ChipState.{ChipState}
 use Rattle.types.specs.declared.Plan.{Plan}
-use Rattle.types.specs.declared.Answer.TheVariants.{Accepted}
-use Rattle.rules.specs.Document01.Result.{Result, refused, ok}
 use Rattle.rules.specs.Document01.Request.{source_of, asked_of, configured}
 use Rattle.rules.specs.Document01.OnePll.{pll_of, pll_from}
-use Rattle.rules.specs.Document01.Plan.{plls_of, hsi_ready, system_from, buses_of, mcos_of, plan_with, chosen_plan, answered, answer_to, planned_at}
+use Rattle.rules.specs.Document01.Plan.{plls_of, hsi_ready, system_from, buses_of, mcos_of, plan_with, chosen_plan, planned_at}
 use Rattle.claims.specs.Demands.Legal.{LegalPll, LegalThird, LegalPlan}
 use Rattle.rules.proofs.Document01.Results.{Holds, holds_then, holds_next, holds_known}
 use Rattle.claims.proofs.Legal.Flash.{flash_asked}
 use Rattle.claims.proofs.Legal.OnePll.{pll_legal}
 use Rattle.rules.specs.Document01.Chip.{odd_at}
-use Rattle.types.specs.declared.PllPlan.{PllPlan}
 use mathlib.Core.List.{List}
 
-pub record LegalPlls (q : Request) (c : ChipState) (l : List PllPlan) : Type 0 where
+pub record LegalPlls (q : Request) (c : ChipState) (l : List (Option PllSettings)) : Type 0 where
   pub pll1 : LegalPll (odd_at c 0) (source_of q) (asked_of q 0) (pll_from l 0)
   pub pll2 : LegalPll (odd_at c 1) (source_of q) (asked_of q 1) (pll_from l 1)
   pub pll3 : LegalThird c.three (odd_at c 2) (source_of q) (asked_of q 2) (pll_from l 2)
@@ -28,7 +24,7 @@ pub record LegalPlls (q : Request) (c : ChipState) (l : List PllPlan) : Type 0 w
 third_legal : (q : Request) (c : ChipState) → Holds (LegalThird c.three (odd_at c 2) (source_of q) (asked_of q 2)) (planned_at q c 2)
 third_legal q c = go c.three
   where
-    go : (t : Bool) → Holds (LegalThird t (odd_at c 2) (source_of q) (asked_of q 2)) (cond t (pll_of (odd_at c 2) (source_of q) (asked_of q 2)) (ok Idle))
+    go : (t : Bool) → Holds (LegalThird t (odd_at c 2) (source_of q) (asked_of q 2)) (cond t (pll_of (odd_at c 2) (source_of q) (asked_of q 2)) (Ok None))
     go true = pll_legal (odd_at c 2) (source_of q) (asked_of q 2)
     go false = refl
 
@@ -50,10 +46,5 @@ chosen_legal q c =
     (λ b. holds_then (LegalPlan q c) (mcos_of q l (system_from q l)) _
     (λ m. record { pll1 = h.pll1; pll2 = h.pll2; pll3 = h.pll3; flash = flash_asked b.ahb.clock c.scale }))))
 
-legal_of : (q : Request) (c : ChipState) (x : Result Plan) → Holds (LegalPlan q c) x → (answered x).answer ≡ Accepted → LegalPlan q c (answered x).plan
-legal_of q c (refused n) h e = absurd (let z : ◌≡◌ {A = ℕ} 0 1 = cc in omega arith)
-legal_of q c (ok p) h e = h
-
-pub plan_legal : (q : Request) (c : ChipState) → (answer_to q c).answer ≡ Accepted → LegalPlan q c (answer_to q c).plan
-unfolding answer_to
-plan_legal q c e = legal_of q c (chosen_plan q c) (chosen_legal q c) e
+pub plan_legal : (q : Request) (c : ChipState) (p : Plan) → chosen_plan q c ≡ Ok p → LegalPlan q c p
+plan_legal q c p e = subst (Holds (LegalPlan q c)) e (chosen_legal q c)

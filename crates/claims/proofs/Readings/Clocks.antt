@@ -1,4 +1,6 @@
 -- Every clock covered, from the oscillator down: its chain in the bank that the whole list leaves ends with the hertz reported.
+use Rattle.types.specs.declared.Refusal.{Refusal}
+use Rattle.std.specs.Prelude.{Option, Some, None, Ok, unwrap_or, is_some, Result}
 use mathlib.Core.Path.{◌≡◌, refl, sym, ◌∙◌, ap, subst}
 use mathlib.Core.Bool.{Bool, true, false, cond, not, ◌||◌}
 use mathlib.Core.List.{List, [], ◌∷◌}
@@ -6,20 +8,13 @@ use Prim.Native.Nat.{ℕ, zero, suc, ◌+◌, ◌-◌, ◌*◌, ◌/◌, ◌≤�
 use native.Mathlib.Omega.{arith}
 use lib.Dec.{eqb}
 use lib.ListN.{get_or}
-use Rattle.types.specs.declared.Hertz.{Hertz}
-use Rattle.types.specs.declared.Hertz.TheVariants.{Unset, Hz}
 use Rattle.types.specs.declared.Strategy.TheVariants.{Integer}
 use Rattle.types.specs.declared.Mco1Source.{Mco1Source}
 use Rattle.types.specs.declared.Mco2Source.{Mco2Source}
 use Rattle.types.specs.declared.Request.{Request}
 use Rattle.types.specs.declared.PllOutput.{PllOutput}
-use Rattle.types.specs.declared.PllOutput.TheVariants.{Off, On}
 use Rattle.types.specs.declared.PllSettings.{PllSettings}
-use Rattle.types.specs.declared.Pll.{Pll}
-use Rattle.types.specs.declared.Pll.TheVariants.{Idle, Runs}
 use Rattle.types.specs.declared.Plan.{Plan}
-use Rattle.rules.specs.Document01.Result.{ok}
-use Rattle.rules.specs.Document01.Hertz.{is_set, hertz_or}
 use Rattle.rules.specs.Document01.Request.{pll_at, source_of, from_hse1, from_hse2}
 use Rattle.rules.specs.Document01.OnePll.{p_clock, q_clock, clock_of}
 use Rattle.rules.specs.Document01.Buses.{timer_of}
@@ -52,13 +47,13 @@ number_below pll2 = omega arith
 number_below pll3 = omega arith
 
 -- what is reported of an output, by its PLL
-report_pll : (x : Pll) (o : Output) → output_of (pll_clocks x) o ≡ pll_hertz o x
-report_pll Idle P = refl
-report_pll Idle Q = refl
-report_pll Idle R = refl
-report_pll (Runs s) P = refl
-report_pll (Runs s) Q = refl
-report_pll (Runs s) R = refl
+report_pll : (x : Option PllSettings) (o : Output) → output_of (pll_clocks x) o ≡ pll_hertz o x
+report_pll None P = refl
+report_pll None Q = refl
+report_pll None R = refl
+report_pll (Some s) P = refl
+report_pll (Some s) Q = refl
+report_pll (Some s) R = refl
 
 pub report_output : (p : Plan) (j : PllName) (o : Output) → hertz_of (reported p) (output j o) ≡ pll_hertz o (pll_in p (number j))
 report_output p pll1 o = report_pll (pll_in p 0) o
@@ -66,13 +61,13 @@ report_output p pll2 o = report_pll (pll_in p 1) o
 report_output p pll3 o = report_pll (pll_in p 2) o
 
 -- an output that is reported has settings
-reported_setting : (o : PllOutput) (h : ℕ) → clock_of o ≡ Hz h → (d : ℕ) × (o ≡ On d h)
-reported_setting Off h e = absurd (let z : ◌≡◌ {A = ℕ} 0 1 = cc in omega arith)
-reported_setting (On d x) h e = (d, let s : x ≡ h = cc in ap (λ (y : ℕ). On d y) s)
+reported_setting : (o : Option PllOutput) (h : ℕ) → clock_of o ≡ Some h → (d : ℕ) × (o ≡ Some (record { divider = d; clock = h }))
+reported_setting None h e = absurd (let z : ◌≡◌ {A = ℕ} 0 1 = cc in omega arith)
+reported_setting (Some o) h e = (o.divider, let s : o.clock ≡ h = cc in ap (λ (y : ℕ). Some (record { divider = o.divider; clock = y })) s)
 
-reported_runs : (o : Output) (x : Pll) (h : ℕ) → pll_hertz o x ≡ Hz h → (s : PllSettings) × (x ≡ Runs s) × (clock_of (setting_of o s) ≡ Hz h)
-reported_runs o Idle h e = absurd (let z : ◌≡◌ {A = ℕ} 0 1 = cc in omega arith)
-reported_runs o (Runs s) h e = (s, refl, e)
+reported_runs : (o : Output) (x : Option PllSettings) (h : ℕ) → pll_hertz o x ≡ Some h → (s : PllSettings) × (x ≡ Some s) × (clock_of (setting_of o s) ≡ Some h)
+reported_runs o None h e = absurd (let z : ◌≡◌ {A = ℕ} 0 1 = cc in omega arith)
+reported_runs o (Some s) h e = (s, refl, e)
 
 module _ (q : Request) (p : Plan) (good : Consistent q p) where
   abbrev fed : Oscillator
@@ -98,26 +93,26 @@ module _ (q : Request) (p : Plan) (good : Consistent q p) where
   unfolding Tree.lsi_of
   lsi_is = rw (core_words p).lsion refl
 
-  switched_hse : (x : Hertz) → switched (hse_bit x) (fed_by x) ≡ fed_by x
-  switched_hse Unset = refl
-  switched_hse (Hz h) = refl
+  switched_hse : (x : Option ℕ) → switched (hse_bit x) (fed_by x) ≡ fed_by x
+  switched_hse None = refl
+  switched_hse (Some h) = refl
 
   hse_is : Tree.hse_of b fed ≡ fed
   unfolding Tree.hse_of
   hse_is = rw ((core_words p).hseon ∙ ap hse_bit good.hse) (switched_hse q.hse)
 
   -- ---- a PLL that is started and in Integer strategy
-  source_by : (x : Hertz) → get_or (off ∷ runs 32_000_000 ∷ runs 4_000_000 ∷ fed_by x ∷ []) (src_of x) off ≡ runs (hertz_or x 32_000_000)
-  source_by Unset = refl
-  source_by (Hz h) = refl
+  source_by : (x : Option ℕ) → get_or (off ∷ runs 32_000_000 ∷ runs 4_000_000 ∷ fed_by x ∷ []) (src_of x) off ≡ runs (unwrap_or x 32_000_000)
+  source_by None = refl
+  source_by (Some h) = refl
 
-  src_word_is : (j : ℕ) → j < 3 → (s : PllSettings) → pll_in p j ≡ Runs s → src_word p.three p.selectors.src j ≡ src_of q.hse
+  src_word_is : (j : ℕ) → j < 3 → (s : PllSettings) → pll_in p j ≡ Some s → src_word p.three p.selectors.src j ≡ src_of q.hse
   src_word_is zero h s e = good.src
   src_word_is (suc zero) h s e = good.src
   src_word_is (suc (suc zero)) h s e = rw (good.third s e) good.src
   src_word_is (suc (suc (suc j))) h s e = absurd (omega arith)
 
-  module _ (j : PllName) (s : PllSettings) (is : pll_in p (number j) ≡ Runs s) where
+  module _ (j : PllName) (s : PllSettings) (is : pll_in p (number j) ≡ Some s) where
     words : PllWords b (number j) s (src_word p.three p.selectors.src (number j))
     words = pll_words p (number j) (number_below j) s is
 
@@ -134,35 +129,35 @@ module _ (q : Request) (p : Plan) (good : Consistent q p) where
         rw (source_is, words.m, words.n, words.fracen, fine.whole st, less_more s.n fine.n)
         (gives_vco j (source_of q) s.m s.n _ fine.m fine.n)
 
-    output_by : (o : Output) (d h e x : ℕ) → s.p ≡ On e x → setting_of o s ≡ On d h → (pll_at q (number j)).strategy ≡ Integer → Gives (Tree.output_of b fed j o) h
+    output_by : (o : Output) (d h e x : ℕ) → s.p ≡ Some (record { divider = e; clock = x }) → setting_of o s ≡ Some (record { divider = d; clock = h }) → (pll_at q (number j)).strategy ≡ Integer → Gives (Tree.output_of b fed j o) h
     unfolding Tree.output_of
     output_by o d h e x on w st =
         rw (words.on, on, words.enables o, words.divides o, w, less_more d (fine.divider o d h w))
         (same (fine.hertz st o d h w) (gives_over d (fine.divider o d h w) (vco_gives st)))
 
   -- an output that is reported, of a PLL that is started and in Integer strategy
-  output_gives : (j : PllName) (o : Output) (h : ℕ) → StartedInteger q p j → pll_hertz o (pll_in p (number j)) ≡ Hz h → Gives (Tree.output_of b fed j o) h
+  output_gives : (j : PllName) (o : Output) (h : ℕ) → StartedInteger q p j → pll_hertz o (pll_in p (number j)) ≡ Some h → Gives (Tree.output_of b fed j o) h
   output_gives j o h st e =
       let runs_p = reported_runs P (pll_in p (number j)) st.hertz (sym (report_output p j P) ∙ st.started) in
       let s : PllSettings = runs_p.0 in
-      let is : pll_in p (number j) ≡ Runs s = runs_p.1 in
+      let is : pll_in p (number j) ≡ Some s = runs_p.1 in
       let on = reported_setting s.p st.hertz runs_p.2 in
-      let w = reported_setting (setting_of o s) h (subst (λ (x : Pll). pll_hertz o x ≡ Hz h) is e) in
+      let w = reported_setting (setting_of o s) h (subst (λ (x : Option PllSettings). pll_hertz o x ≡ Some h) is e) in
       output_by j s is o w.0 h on.0 st.hertz on.1 w.1 st.integer
 
-  p_clock_is : (x : Pll) → p_clock x ≡ pll_hertz P x
-  p_clock_is Idle = refl
-  p_clock_is (Runs s) = refl
+  p_clock_is : (x : Option PllSettings) → p_clock x ≡ pll_hertz P x
+  p_clock_is None = refl
+  p_clock_is (Some s) = refl
 
-  q_clock_is : (x : Pll) → q_clock x ≡ pll_hertz Q x
-  q_clock_is Idle = refl
-  q_clock_is (Runs s) = refl
+  q_clock_is : (x : Option PllSettings) → q_clock x ≡ pll_hertz Q x
+  q_clock_is None = refl
+  q_clock_is (Some s) = refl
 
   -- ---- the system clock and the buses
-  sys_by : (x : Hertz) (c : Chain)
-      → Gives (get_or (from_oscillator (runs 32_000_000) ∷ from_oscillator (runs 4_000_000) ∷ from_oscillator (fed_by x) ∷ c ∷ []) (sw_of false x) none) (hertz_or x 32_000_000)
-  sys_by Unset c = gives_oscillator 32_000_000
-  sys_by (Hz h) c = gives_oscillator h
+  sys_by : (x : Option ℕ) (c : Chain)
+      → Gives (get_or (from_oscillator (runs 32_000_000) ∷ from_oscillator (runs 4_000_000) ∷ from_oscillator (fed_by x) ∷ c ∷ []) (sw_of false x) none) (unwrap_or x 32_000_000)
+  sys_by None c = gives_oscillator 32_000_000
+  sys_by (Some h) c = gives_oscillator h
 
   through_pll1 : p.selectors.sw ≡ 3 → Steady q p (sys_via p) → StartedInteger q p pll1
   through_pll1 e st = subst (λ (n : ℕ). Steady q p (cond (eqb n 3) (by pll1) no_pll)) e st
@@ -187,7 +182,7 @@ module _ (q : Request) (p : Plan) (good : Consistent q p) where
   timer_gives f ppre tim w h e st = rw (w, (core_words p).timpre) (same e (gives_timer ppre h (ahb_gives st)))
 
   -- ---- the peripheral clock
-  fed_gives : (x : Hertz) (h : ℕ) → x ≡ Hz h → Gives (from_oscillator (fed_by x)) h
+  fed_gives : (x : Option ℕ) (h : ℕ) → x ≡ Some h → Gives (from_oscillator (fed_by x)) h
   fed_gives x h e = rw e (gives_oscillator h)
 
   per_from : Peripheral q p → Gives (Tree.per_of b fed) p.clocks.per
@@ -197,16 +192,16 @@ module _ (q : Request) (p : Plan) (good : Consistent q p) where
   per_from (from_hse w e) = rw ((core_words p).ckpersel ∙ w, hse_is) (fed_gives q.hse p.clocks.per e)
 
   -- ---- the MCOs
-  planned_is : (x : Hertz) (c : ℕ) → planned x ≡ ok c → x ≡ Hz c
-  planned_is Unset c e = absurd (let z : ◌≡◌ {A = ℕ} 0 1 = cc in omega arith)
-  planned_is (Hz h) c e = let s : h ≡ c = cc in ap Hz s
+  planned_is : (x : Option ℕ) (c : ℕ) → planned x ≡ Ok c → x ≡ Some c
+  planned_is None c e = absurd (let z : ◌≡◌ {A = ℕ} 0 1 = cc in omega arith)
+  planned_is (Some h) c e = let s : h ≡ c = cc in ap Some s
 
   -- HSE where an MCO has it for its source: it is stated
-  stated_gives : (x : Hertz) (c : ℕ) (t : Bool) → is_set x || t ≡ true → t ≡ false → ok (hertz_or x 0) ≡ ok c → Gives (from_oscillator (fed_by x)) c
-  stated_gives Unset c t a z e = absurd (let y : true ≡ false = sym a ∙ z in let z : ◌≡◌ {A = ℕ} 0 1 = cc in omega arith)
-  stated_gives (Hz h) c t a z e = let s : c ≡ h = cc in same s (gives_oscillator h)
+  stated_gives : (x : Option ℕ) (c : ℕ) (t : Bool) → is_some x || t ≡ true → t ≡ false → ◌≡◌ {A = Result ℕ Refusal} (Ok (unwrap_or x 0)) (Ok c) → Gives (from_oscillator (fed_by x)) c
+  stated_gives None c t a z e = absurd (let y : true ≡ false = sym a ∙ z in let z : ◌≡◌ {A = ℕ} 0 1 = cc in omega arith)
+  stated_gives (Some h) c t a z e = let s : c ≡ h = cc in same s (gives_oscillator h)
 
-  mco1_from : (x : Mco1Source) (c : ℕ) → is_set q.hse || not (from_hse1 x || from_hse2 q.mco2source) ≡ true → mco1_input x q.hse (q_clock (pll_in p 0)) ≡ ok c
+  mco1_from : (x : Mco1Source) (c : ℕ) → is_some q.hse || not (from_hse1 x || from_hse2 q.mco2source) ≡ true → mco1_input x q.hse (q_clock (pll_in p 0)) ≡ Ok c
       → Steady q p (mco1_via x)
       → Gives (get_or (from_oscillator (Tree.hsi_of b fed) ∷ none ∷ from_oscillator (Tree.hse_of b fed) ∷ Tree.output_of b fed pll1 Q ∷ from_oscillator (Tree.hsi48_of b fed) ∷ []) (mco1_code x) none) c
   unfolding mco1_input
@@ -220,8 +215,8 @@ module _ (q : Request) (p : Plan) (good : Consistent q p) where
   or_true true = refl
   or_true false = refl
 
-  mco2_from : (x : Mco2Source) (c : ℕ) → is_set q.hse || not (from_hse1 q.mco1source || from_hse2 x) ≡ true
-      → mco2_input x p.clocks.sys q.hse (p_clock (pll_in p 0)) (p_clock (pll_in p 1)) ≡ ok c → Steady q p (mco2_via x p)
+  mco2_from : (x : Mco2Source) (c : ℕ) → is_some q.hse || not (from_hse1 q.mco1source || from_hse2 x) ≡ true
+      → mco2_input x p.clocks.sys q.hse (p_clock (pll_in p 0)) (p_clock (pll_in p 1)) ≡ Ok c → Steady q p (mco2_via x p)
       → Gives (get_or (Tree.sys_of b fed ∷ Tree.output_of b fed pll2 P ∷ from_oscillator (Tree.hse_of b fed) ∷ Tree.output_of b fed pll1 P ∷ from_oscillator (Tree.csi_of b fed) ∷ from_oscillator (Tree.lsi_of b fed) ∷ []) (mco2_code x) none) c
   unfolding mco2_input
   mco2_from Mco2Source.Sysclk c a e st = let s : c ≡ p.clocks.sys = cc in same s (sys_gives st)
@@ -231,14 +226,14 @@ module _ (q : Request) (p : Plan) (good : Consistent q p) where
   mco2_from Mco2Source.Csi c a e st = let s : c ≡ 4_000_000 = cc in rw csi_is (same s (gives_oscillator 4_000_000))
   mco2_from Mco2Source.Lsi c a e st = let s : c ≡ 32_000 = cc in rw lsi_is (same s (gives_oscillator 32_000))
 
-  mco1_gives : (r : ℕ) → p.mcos.mco1.clock ≡ Hz r → Steady q p (mco1_via q.mco1source) → Gives (Tree.mco1_of b fed) r
+  mco1_gives : (r : ℕ) → p.mcos.mco1.clock ≡ Some r → Steady q p (mco1_via q.mco1source) → Gives (Tree.mco1_of b fed) r
   unfolding Tree.mco1_of
   mco1_gives r e st =
       let d = good.mco1 r e in
       rw ((core_words p).mco1sel ∙ good.mco1sel, (core_words p).mco1pre)
       (same d.hertz (gives_over p.mcos.mco1.pre d.above (mco1_from q.mco1source d.clock good.stated d.is st)))
 
-  mco2_gives : (r : ℕ) → p.mcos.mco2.clock ≡ Hz r → Steady q p (mco2_via q.mco2source p) → Gives (Tree.mco2_of b fed) r
+  mco2_gives : (r : ℕ) → p.mcos.mco2.clock ≡ Some r → Steady q p (mco2_via q.mco2source p) → Gives (Tree.mco2_of b fed) r
   unfolding Tree.mco2_of
   mco2_gives r e st =
       let d = good.mco2 r e in
@@ -246,10 +241,10 @@ module _ (q : Request) (p : Plan) (good : Consistent q p) where
       (same d.hertz (gives_over p.mcos.mco2.pre d.above (mco2_from q.mco2source d.clock good.stated d.is st)))
 
   -- ---- every clock covered
-  reads : (h r : ℕ) → Hz h ≡ Hz r → {c : Chain} → Gives c h → Gives c r
+  reads : (h r : ℕ) → Some h ≡ Some r → {c : Chain} → Gives c h → Gives c r
   reads h r e g = let s : r ≡ h = cc in same s g
 
-  clock_gives : (k : Clock) (r : ℕ) → hertz_of (reported p) k ≡ Hz r → Steady q p (via_of q p k) → Gives (path_of b fed k) r
+  clock_gives : (k : Clock) (r : ℕ) → hertz_of (reported p) k ≡ Some r → Steady q p (via_of q p k) → Gives (path_of b fed k) r
   unfolding path_of
   clock_gives sys r e st = reads _ r e (sys_gives st)
   clock_gives hclk r e st = reads _ r e (ahb_gives st)
@@ -273,13 +268,13 @@ module _ (q : Request) (p : Plan) (good : Consistent q p) where
   unfolding Tree.output_of Tree.vco_of
   output_comes j o = comes_gated (pll_word b j 13) (comes_gated (pll_word b j (enable o)) (comes_over (pll_word b j (divider o) + 1) (comes_vco j (Tree.source_of b fed j) (pll_word b j 2) (pll_word b j 3 + 1) (pll_word b j 5) (pll_word b j 4))))
 
-  sys_select : (x : Hertz) (c : Chain) → Comes no_pll (get_or (from_oscillator (Tree.hsi_of b fed) ∷ from_oscillator (Tree.csi_of b fed) ∷ from_oscillator (Tree.hse_of b fed) ∷ c ∷ []) (sw_of false x) none)
-  sys_select Unset c = comes_oscillator (Tree.hsi_of b fed)
-  sys_select (Hz h) c = comes_oscillator (Tree.hse_of b fed)
+  sys_select : (x : Option ℕ) (c : Chain) → Comes no_pll (get_or (from_oscillator (Tree.hsi_of b fed) ∷ from_oscillator (Tree.csi_of b fed) ∷ from_oscillator (Tree.hse_of b fed) ∷ c ∷ []) (sw_of false x) none)
+  sys_select None c = comes_oscillator (Tree.hsi_of b fed)
+  sys_select (Some h) c = comes_oscillator (Tree.hse_of b fed)
 
-  sw_direct : (x : Hertz) → cond (eqb (sw_of false x) 3) (by pll1) no_pll ≡ no_pll
-  sw_direct Unset = refl
-  sw_direct (Hz h) = refl
+  sw_direct : (x : Option ℕ) → cond (eqb (sw_of false x) 3) (by pll1) no_pll ≡ no_pll
+  sw_direct None = refl
+  sw_direct (Some h) = refl
 
   sys_comes_by : System q p → Comes (sys_via p) (Tree.sys_of b fed)
   unfolding Tree.sys_of
@@ -356,6 +351,6 @@ module _ (q : Request) (p : Plan) (good : Consistent q p) where
   two_readings = record { reads = one_reads; via = λ k. (clock_comes k).on }
 
 -- every clock reported whose path, in the bank, has no PLL or one that is started and in Integer strategy is covered
-pub covers : (q : Request) (p : Plan) (b : List ℕ) → TwoReadings q p b → (k : Clock) (r : ℕ) (path : Path) → hertz_of (reported p) k ≡ Hz r → path_of b (fed_by q.hse) k ≡ along path
+pub covers : (q : Request) (p : Plan) (b : List ℕ) → TwoReadings q p b → (k : Clock) (r : ℕ) (path : Path) → hertz_of (reported p) k ≡ Some r → path_of b (fed_by q.hse) k ≡ along path
     → steady q (started p) (pll_on path) ≡ true → Covered q p (started p) k r
 covers q p b t k r path e f st = record { report = e; steady_path = subst (λ (v : Via). steady q (started p) v ≡ true) (sym (t.via k path f)) st }

@@ -1,22 +1,16 @@
 -- What the rules settle of a plan and its clocks need: dividers of at least 1, PPREs that registers hold, and hertz that are the floors of the
 -- numbers chosen.
+use Rattle.std.specs.Prelude.{Option, Some, None, Result, Ok, is_some}
 use mathlib.Core.Path.{◌≡◌, refl, sym}
 use mathlib.Core.Bool.{true, false, not, ◌||◌}
 use Prim.Native.Nat.{ℕ, ◌*◌, ◌/◌, ◌≤◌, ◌<◌}
-use Rattle.types.specs.declared.Hertz.{Hertz}
-use Rattle.types.specs.declared.Hertz.TheVariants.{Unset, Hz}
+use Rattle.types.specs.declared.Refusal.{Refusal}
 use Rattle.types.specs.declared.Strategy.{Strategy}
 use Rattle.types.specs.declared.Strategy.TheVariants.{Integer, Fractional}
 use Rattle.types.specs.declared.Request.{Request}
 use Rattle.types.specs.declared.PllOutput.{PllOutput}
-use Rattle.types.specs.declared.PllOutput.TheVariants.{On}
-use Rattle.types.specs.declared.Fraction.TheVariants.{Whole}
 use Rattle.types.specs.declared.PllSettings.{PllSettings}
-use Rattle.types.specs.declared.Pll.{Pll}
-use Rattle.types.specs.declared.Pll.TheVariants.{Idle, Runs}
 use Rattle.types.specs.declared.Plan.{Plan}
-use Rattle.rules.specs.Document01.Result.{Result, ok}
-use Rattle.rules.specs.Document01.Hertz.{is_set}
 use Rattle.rules.specs.Document01.Request.{pll_at, source_of, from_hse1, from_hse2}
 use Rattle.rules.specs.Document01.OnePll.{clock_of, p_clock, q_clock}
 use Rattle.rules.specs.Document01.Buses.{timer_of}
@@ -31,19 +25,19 @@ use Rattle.laws.proofs.Tests.{never, and_left, and_right}
 use Rattle.rules.proofs.Manual.Chains.{ppres}
 
 -- an output's settings, and what a PLL reports of it
-abbrev pub setting_of : Output → PllSettings → PllOutput
+abbrev pub setting_of : Output → PllSettings → Option PllOutput
 setting_of P s = s.p
 setting_of Q s = s.q
 setting_of R s = s.r
 
-abbrev pub pll_hertz : Output → Pll → Hertz
-pll_hertz o Idle = Unset
-pll_hertz o (Runs s) = clock_of (setting_of o s)
+abbrev pub pll_hertz : Output → Option PllSettings → Option ℕ
+pll_hertz o None = None
+pll_hertz o (Some s) = clock_of (setting_of o s)
 
 -- PLL j is started and in Integer strategy, as facts
 pub record StartedInteger (q : Request) (p : Plan) (j : PllName) : Type 0 where
   pub hertz : ℕ
-  pub started : hertz_of (reported p) (output j P) ≡ Hz hertz
+  pub started : hertz_of (reported p) (output j P) ≡ Some hertz
   pub integer : (pll_at q (number j)).strategy ≡ Integer
 
 abbrev pub Steady : Request → Plan → Via → Type 0
@@ -55,9 +49,9 @@ is_integer_is : (s : Strategy) → is_integer s ≡ true → s ≡ Integer
 is_integer_is Integer t = refl
 is_integer_is Fractional t = absurd (never (sym t))
 
-is_set_is : (h : Hertz) → is_set h ≡ true → (r : ℕ) × (h ≡ Hz r)
-is_set_is Unset t = absurd (never (sym t))
-is_set_is (Hz r) t = (r, refl)
+is_set_is : (h : Option ℕ) → is_some h ≡ true → (r : ℕ) × (h ≡ Some r)
+is_set_is None t = absurd (never (sym t))
+is_set_is (Some r) t = (r, refl)
 
 pub steady_is : (q : Request) (p : Plan) (v : Via) → steady q (started p) v ≡ true → Steady q p v
 steady_is q p no_pll t = tt
@@ -69,25 +63,25 @@ steady_is q p (by j) t =
 pub record GoodPll (strategy : Strategy) (source : ℕ) (s : PllSettings) : Type 0 where
   pub m : 1 ≤ s.m
   pub n : 1 ≤ s.n
-  pub divider : (o : Output) (d h : ℕ) → setting_of o s ≡ On d h → 1 ≤ d
-  pub whole : strategy ≡ Integer → s.fraction ≡ Whole
-  pub hertz : strategy ≡ Integer → (o : Output) (d h : ℕ) → setting_of o s ≡ On d h → h ≡ source / s.m * s.n / d
+  pub divider : (o : Output) (d h : ℕ) → setting_of o s ≡ Some (record { divider = d; clock = h }) → 1 ≤ d
+  pub whole : strategy ≡ Integer → s.fraction ≡ None
+  pub hertz : strategy ≡ Integer → (o : Output) (d h : ℕ) → setting_of o s ≡ Some (record { divider = d; clock = h }) → h ≡ source / s.m * s.n / d
 
 -- where the system clock comes from
 pub data System (q : Request) (p : Plan) : Type 0 where
   source : p.selectors.sw ≡ sw_of false q.hse → p.clocks.sys ≡ source_of q → System q p
-  pll1_p : p.selectors.sw ≡ 3 → p_clock (pll_in p 0) ≡ Hz p.clocks.sys → System q p
+  pll1_p : p.selectors.sw ≡ 3 → p_clock (pll_in p 0) ≡ Some p.clocks.sys → System q p
 
 -- where the peripheral clock comes from
 pub data Peripheral (q : Request) (p : Plan) : Type 0 where
   from_hsi : p.selectors.ckpersel ≡ 0 → p.clocks.per ≡ 32_000_000 → Peripheral q p
   from_csi : p.selectors.ckpersel ≡ 1 → p.clocks.per ≡ 4_000_000 → Peripheral q p
-  from_hse : p.selectors.ckpersel ≡ 2 → q.hse ≡ Hz p.clocks.per → Peripheral q p
+  from_hse : p.selectors.ckpersel ≡ 2 → q.hse ≡ Some p.clocks.per → Peripheral q p
 
 -- an MCO that is reported as r hertz, from its source's clock and its prescaler
-pub record Divided (input : Result ℕ) (pre r : ℕ) : Type 0 where
+pub record Divided (input : Result ℕ Refusal) (pre r : ℕ) : Type 0 where
   pub clock : ℕ
-  pub is : input ≡ ok clock
+  pub is : input ≡ Ok clock
   pub above : 1 ≤ pre
   pub hertz : r ≡ clock / pre
 
@@ -98,8 +92,8 @@ pub record Consistent (q : Request) (p : Plan) : Type 0 where
   pub hsi48 : p.clocks.hsi48 ≡ 48_000_000
   pub lsi : p.clocks.lsi ≡ 32_000
   pub src : p.selectors.src ≡ src_of q.hse
-  pub plls : (j : ℕ) → j < 3 → (s : PllSettings) → pll_in p j ≡ Runs s → GoodPll (pll_at q j).strategy (source_of q) s
-  pub third : (s : PllSettings) → pll_in p 2 ≡ Runs s → p.three ≡ true
+  pub plls : (j : ℕ) → j < 3 → (s : PllSettings) → pll_in p j ≡ Some s → GoodPll (pll_at q j).strategy (source_of q) s
+  pub third : (s : PllSettings) → pll_in p 2 ≡ Some s → p.three ≡ true
   pub system : System q p
   pub hpre : 1 ≤ p.buses.ahb.pre
   pub hclk : p.buses.ahb.clock ≡ p.clocks.sys / p.buses.ahb.pre
@@ -112,9 +106,9 @@ pub record Consistent (q : Request) (p : Plan) : Type 0 where
   pub timx : p.clocks.timx ≡ timer_of p.buses.ahb.clock p.buses.apb1.pre
   pub timy : p.clocks.timy ≡ timer_of p.buses.ahb.clock p.buses.apb2.pre
   pub per : Peripheral q p
-  pub stated : is_set q.hse || not (from_hse1 q.mco1source || from_hse2 q.mco2source) ≡ true
+  pub stated : is_some q.hse || not (from_hse1 q.mco1source || from_hse2 q.mco2source) ≡ true
   pub mco1sel : p.selectors.mco1sel ≡ mco1_code q.mco1source
   pub mco2sel : p.selectors.mco2sel ≡ mco2_code q.mco2source
-  pub mco1 : (r : ℕ) → p.mcos.mco1.clock ≡ Hz r → Divided (mco1_input q.mco1source q.hse (q_clock (pll_in p 0))) p.mcos.mco1.pre r
-  pub mco2 : (r : ℕ) → p.mcos.mco2.clock ≡ Hz r
+  pub mco1 : (r : ℕ) → p.mcos.mco1.clock ≡ Some r → Divided (mco1_input q.mco1source q.hse (q_clock (pll_in p 0))) p.mcos.mco1.pre r
+  pub mco2 : (r : ℕ) → p.mcos.mco2.clock ≡ Some r
       → Divided (mco2_input q.mco2source p.clocks.sys q.hse (p_clock (pll_in p 0)) (p_clock (pll_in p 1))) p.mcos.mco2.pre r

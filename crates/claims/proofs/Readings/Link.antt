@@ -1,29 +1,27 @@
 -- Every plan that the rules give is consistent, so both readings of every clock that it covers are as demand 3 says.
+use Rattle.types.specs.declared.Entry.{Entry}
+use Rattle.std.specs.Prelude.{Option, Some, None, Result, Ok, unwrap_or, is_some}
 use mathlib.Core.Path.{◌≡◌, refl, sym, ◌∙◌, ap, subst}
 use mathlib.Core.Bool.{Bool, true, false, cond, not, ◌||◌}
 use mathlib.Core.List.{List}
 use Prim.Native.Nat.{ℕ, zero, suc, ◌<◌}
 use native.Mathlib.Omega.{arith}
-use Rattle.types.specs.declared.Hertz.{Hertz}
-use Rattle.types.specs.declared.Hertz.TheVariants.{Hz}
+use Rattle.types.specs.declared.Refusal.{Refusal}
 use Rattle.types.specs.declared.Strategy.{Strategy}
 use Rattle.types.specs.declared.Request.{Request}
 use Rattle.types.specs.declared.ChipState.{ChipState}
 use Rattle.types.specs.declared.PllSettings.{PllSettings}
-use Rattle.types.specs.declared.Pll.{Pll}
-use Rattle.types.specs.declared.Pll.TheVariants.{Idle, Runs}
 use Rattle.types.specs.declared.Plan.{Plan}
 use Rattle.types.specs.declared.Refusal.TheVariants.{McoHseUnstated}
-use Rattle.rules.specs.Document01.Result.{Result, refused, ok, ◌>>=◌, ◌>>◌}
-use Rattle.rules.specs.Document01.Hertz.{is_set, hertz_or}
+use Rattle.rules.specs.Document01.Result.{◌>>=◌, ◌>>◌}
 use Rattle.rules.specs.Document01.Request.{pll_at, limited, from_hse1, from_hse2, source_of, system_of, needs_pll1, configured, asked_of}
 use Rattle.rules.specs.Document01.OnePll.{pll_of, p_clock, q_clock, pll_from}
 use Rattle.rules.specs.Document01.Buses.{peripheral_of, ahb_of, apb_of}
 use Rattle.rules.specs.Document01.Mco.{mco1_input, mco2_input, mco_of}
-use Rattle.rules.specs.Document01.Plan.{plls_of, hsi_ready, system_from, buses_of, mcos_of, sw_of, plan_with, chosen_plan, answered, answer_to, planned_at, by_number}
+use Rattle.rules.specs.Document01.Plan.{plls_of, hsi_ready, system_from, buses_of, mcos_of, sw_of, plan_with, chosen_plan, planned_at, by_number}
 use Rattle.rules.specs.Document01.Entries.{pll_in, entries_of}
-use Rattle.rules.specs.Document01.Bank.{apply_all}
-use Rattle.claims.specs.Demands.Readings.{TwoReadings, Reads, BankReads}
+use Rattle.rules.specs.Document01.Bank.{apply_all, reset_bank}
+use Rattle.claims.specs.Demands.Readings.{TwoReadings, Reads}
 use Rattle.laws.proofs.Tests.{by_test}
 use Rattle.rules.proofs.Document01.Results.{bind_ok, then_ok, tested_ok}
 use Rattle.claims.proofs.Readings.PllFacts.{pll_good, pll_p}
@@ -36,25 +34,24 @@ use Rattle.types.specs.declared.Mco.{Mco}
 use Rattle.types.specs.declared.Buses.{Buses}
 use Rattle.types.specs.declared.Mcos.{Mcos}
 use Rattle.rules.specs.Document01.Chip.{odd_at}
-use Rattle.types.specs.declared.PllPlan.{PllPlan}
 
 -- ---- the PLLs
-record GoodPlls (q : Request) (three : Bool) (l : List PllPlan) : Type 0 where
-  stated : is_set q.hse || not (from_hse1 q.mco1source || from_hse2 q.mco2source) ≡ true
-  first : (s : PllSettings) → pll_from l 0 ≡ Runs s → GoodPll (pll_at q 0).strategy (source_of q) s
-  second : (s : PllSettings) → pll_from l 1 ≡ Runs s → GoodPll (pll_at q 1).strategy (source_of q) s
-  last : (s : PllSettings) → pll_from l 2 ≡ Runs s → (three ≡ true) × GoodPll (pll_at q 2).strategy (source_of q) s
+record GoodPlls (q : Request) (three : Bool) (l : List (Option PllSettings)) : Type 0 where
+  stated : is_some q.hse || not (from_hse1 q.mco1source || from_hse2 q.mco2source) ≡ true
+  first : (s : PllSettings) → pll_from l 0 ≡ Some s → GoodPll (pll_at q 0).strategy (source_of q) s
+  second : (s : PllSettings) → pll_from l 1 ≡ Some s → GoodPll (pll_at q 1).strategy (source_of q) s
+  last : (s : PllSettings) → pll_from l 2 ≡ Some s → (three ≡ true) × GoodPll (pll_at q 2).strategy (source_of q) s
   -- PLL1 P is there where the system clock needs it
-  needed : needs_pll1 q ≡ true → (r : ℕ) × (p_clock (pll_from l 0) ≡ Hz r)
+  needed : needs_pll1 q ≡ true → (r : ℕ) × (p_clock (pll_from l 0) ≡ Some r)
 
 -- what PLL1 is asked for keeps its strategy, and has P where the system clock needs it
 kept_strategy : (q : Request) → (asked_of q 0).strategy ≡ (pll_at q 0).strategy
 kept_strategy q = by_test (needs_pll1 q) (λ t. rw t) (λ f. rw f)
 
-asked_p : (q : Request) → needs_pll1 q ≡ true → (asked_of q 0).p ≡ Hz (system_of q)
+asked_p : (q : Request) → needs_pll1 q ≡ true → (asked_of q 0).p ≡ Some (system_of q)
 asked_p q t = rw t
 
-third_good : (q : Request) (odd three : Bool) (s : PllSettings) → cond three (pll_of odd (source_of q) (asked_of q 2)) (ok Idle) ≡ ok (Runs s)
+third_good : (q : Request) (odd three : Bool) (s : PllSettings) → cond three (pll_of odd (source_of q) (asked_of q 2)) (Ok None) ≡ Ok (Some s)
     → (three ≡ true) × GoodPll (pll_at q 2).strategy (source_of q) s
 third_good q odd true s e = (refl, pll_good odd (source_of q) (asked_of q 2) s e)
 third_good q odd false s e = absurd (let y : ◌≡◌ {A = ℕ} 0 1 = cc in omega arith)
@@ -64,32 +61,32 @@ module _ (q : Request) (c : ChipState) where
   abbrev src : ℕ
   src = source_of q
 
-  made_good : (x y z : Pll) → is_set q.hse || not (from_hse1 q.mco1source || from_hse2 q.mco2source) ≡ true
-      → planned_at q c 0 ≡ ok x → planned_at q c 1 ≡ ok y → planned_at q c 2 ≡ ok z → GoodPlls q c.three (by_number x y z)
+  made_good : (x y z : Option PllSettings) → is_some q.hse || not (from_hse1 q.mco1source || from_hse2 q.mco2source) ≡ true
+      → planned_at q c 0 ≡ Ok x → planned_at q c 1 ≡ Ok y → planned_at q c 2 ≡ Ok z → GoodPlls q c.three (by_number x y z)
   made_good x y z st e₁ e₂ e₃ = record {
     stated = st;
-    first = λ s w. subst (λ (t : Strategy). GoodPll t src s) (kept_strategy q) (pll_good (odd_at c 0) src (asked_of q 0) s (e₁ ∙ ap ok w));
-    second = λ s w. pll_good (odd_at c 1) src (asked_of q 1) s (e₂ ∙ ap ok w);
-    last = λ s w. third_good q (odd_at c 2) c.three s (e₃ ∙ ap ok w);
+    first = λ s w. subst (λ (t : Strategy). GoodPll t src s) (kept_strategy q) (pll_good (odd_at c 0) src (asked_of q 0) s (e₁ ∙ ap Ok w));
+    second = λ s w. pll_good (odd_at c 1) src (asked_of q 1) s (e₂ ∙ ap Ok w);
+    last = λ s w. third_good q (odd_at c 2) c.three s (e₃ ∙ ap Ok w);
     needed = λ t. pll_p (odd_at c 0) src (asked_of q 0) x (system_of q) (asked_p q t) e₁;
   }
 
-  abbrev after3 : Pll → Pll → Pll → Result (List PllPlan)
-  after3 x y z = ok (by_number x y z)
+  abbrev after3 : Option PllSettings → Option PllSettings → Option PllSettings → Result (List (Option PllSettings)) Refusal
+  after3 x y z = Ok (by_number x y z)
 
-  abbrev after2 : Pll → Pll → Result (List PllPlan)
+  abbrev after2 : Option PllSettings → Option PllSettings → Result (List (Option PllSettings)) Refusal
   after2 x y = planned_at q c 2 >>= after3 x y
 
-  abbrev after1 : Pll → Result (List PllPlan)
+  abbrev after1 : Option PllSettings → Result (List (Option PllSettings)) Refusal
   after1 x = planned_at q c 1 >>= after2 x
 
-  hse_stated : (u : Unit {0}) → configured q ≡ ok u → is_set q.hse || not (from_hse1 q.mco1source || from_hse2 q.mco2source) ≡ true
+  hse_stated : (u : Unit {0}) → configured q ≡ Ok u → is_some q.hse || not (from_hse1 q.mco1source || from_hse2 q.mco2source) ≡ true
   unfolding configured
   hse_stated u e =
       let e₁ = then_ok (limited q) _ u e in
-      (tested_ok (is_set q.hse || not (from_hse1 q.mco1source || from_hse2 q.mco2source)) McoHseUnstated _ u e₁.2).0
+      (tested_ok (is_some q.hse || not (from_hse1 q.mco1source || from_hse2 q.mco2source)) McoHseUnstated _ u e₁.2).0
 
-  plls_good : (l : List PllPlan) → plls_of q c ≡ ok l → GoodPlls q c.three l
+  plls_good : (l : List (Option PllSettings)) → plls_of q c ≡ Ok l → GoodPlls q c.three l
   unfolding plls_of
   plls_good l e =
       let e₁ = then_ok (configured q) (planned_at q c 0 >>= after1) l e in
@@ -98,8 +95,8 @@ module _ (q : Request) (c : ChipState) where
       let e₄ = bind_ok (planned_at q c 2) (after3 e₂.0 e₃.0) l e₃.2 in
       same_plls l (by_number e₂.0 e₃.0 e₄.0) e₄.2 (made_good e₂.0 e₃.0 e₄.0 (hse_stated e₁.0 e₁.1) e₂.1 e₃.1 e₄.1)
     where
-      same_plls : (l k : List PllPlan) → ok k ≡ ok l → GoodPlls q c.three k → GoodPlls q c.three l
-      same_plls l k e g = let f : k ≡ l = cc in subst (λ (x : List PllPlan). GoodPlls q c.three x) f g
+      same_plls : (l k : List (Option PllSettings)) → ◌≡◌ {A = Result (List (Option PllSettings)) Refusal} (Ok k) (Ok l) → GoodPlls q c.three k → GoodPlls q c.three l
+      same_plls l k e g = let f : k ≡ l = cc in subst (λ (x : List (Option PllSettings)). GoodPlls q c.three x) f g
 
 -- ---- the buses
 record GoodBuses (system : ℕ) (b : Buses) : Type 0 where
@@ -109,22 +106,22 @@ record GoodBuses (system : ℕ) (b : Buses) : Type 0 where
   apb3 : GoodApb b.ahb.clock b.apb3
 
 module _ (q : Request) (system : ℕ) where
-  abbrev then3 : Bus → Bus → Bus → Bus → Result Buses
-  then3 a x y z = ok (record { ahb = a; apb1 = x; apb2 = y; apb3 = z })
+  abbrev then3 : Bus → Bus → Bus → Bus → Result Buses Refusal
+  then3 a x y z = Ok (record { ahb = a; apb1 = x; apb2 = y; apb3 = z })
 
-  abbrev then2 : Bus → Bus → Bus → Result Buses
+  abbrev then2 : Bus → Bus → Bus → Result Buses Refusal
   then2 a x y = apb_of a.clock q.apb3 >>= then3 a x y
 
-  abbrev then1 : Bus → Bus → Result Buses
+  abbrev then1 : Bus → Bus → Result Buses Refusal
   then1 a x = apb_of a.clock q.apb2 >>= then2 a x
 
-  abbrev then0 : Bus → Result Buses
+  abbrev then0 : Bus → Result Buses Refusal
   then0 a = apb_of a.clock q.apb1 >>= then1 a
 
-  same_buses : (b k : Buses) → ok k ≡ ok b → GoodBuses system k → GoodBuses system b
+  same_buses : (b k : Buses) → ◌≡◌ {A = Result Buses Refusal} (Ok k) (Ok b) → GoodBuses system k → GoodBuses system b
   same_buses b k e g = let f : k ≡ b = cc in subst (λ (x : Buses). GoodBuses system x) f g
 
-  buses_good : (b : Buses) → buses_of q system ≡ ok b → GoodBuses system b
+  buses_good : (b : Buses) → buses_of q system ≡ Ok b → GoodBuses system b
   unfolding buses_of
   buses_good b e =
       let e₁ = bind_ok (ahb_of system q.ahb) then0 b e in
@@ -140,36 +137,36 @@ module _ (q : Request) (system : ℕ) where
       })
 
 -- ---- the MCOs
-module _ (q : Request) (l : List PllPlan) (system : ℕ) where
-  abbrev input1 : Result ℕ
+module _ (q : Request) (l : List (Option PllSettings)) (system : ℕ) where
+  abbrev input1 : Result ℕ Refusal
   input1 = mco1_input q.mco1source q.hse (q_clock (pll_from l 0))
 
-  abbrev input2 : Result ℕ
+  abbrev input2 : Result ℕ Refusal
   input2 = mco2_input q.mco2source system q.hse (p_clock (pll_from l 0)) (p_clock (pll_from l 1))
 
   record GoodMcos (m : Mcos) : Type 0 where
-    mco1 : (r : ℕ) → m.mco1.clock ≡ Hz r → Divided input1 m.mco1.pre r
-    mco2 : (r : ℕ) → m.mco2.clock ≡ Hz r → Divided input2 m.mco2.pre r
+    mco1 : (r : ℕ) → m.mco1.clock ≡ Some r → Divided input1 m.mco1.pre r
+    mco2 : (r : ℕ) → m.mco2.clock ≡ Some r → Divided input2 m.mco2.pre r
 
-  divided : (input : Result ℕ) (clock : ℕ) (h : Hertz) (m : Mco) → input ≡ ok clock → mco_of clock h ≡ ok m → (r : ℕ) → m.clock ≡ Hz r → Divided input m.pre r
+  divided : (input : Result ℕ Refusal) (clock : ℕ) (h : Option ℕ) (m : Mco) → input ≡ Ok clock → mco_of clock h ≡ Ok m → (r : ℕ) → m.clock ≡ Some r → Divided input m.pre r
   divided input clock h m i e r w = let g = mco_good clock h m r e w in record { clock = clock; is = i; above = g.0; hertz = g.1 }
 
-  abbrev next3 : Mco → Mco → Result Mcos
-  next3 x y = ok (record { mco1 = x; mco2 = y })
+  abbrev next3 : Mco → Mco → Result Mcos Refusal
+  next3 x y = Ok (record { mco1 = x; mco2 = y })
 
-  abbrev next2 : Mco → ℕ → Result Mcos
+  abbrev next2 : Mco → ℕ → Result Mcos Refusal
   next2 x i = mco_of i q.mco2 >>= next3 x
 
-  abbrev next1 : Mco → Result Mcos
+  abbrev next1 : Mco → Result Mcos Refusal
   next1 x = input2 >>= next2 x
 
-  abbrev next0 : ℕ → Result Mcos
+  abbrev next0 : ℕ → Result Mcos Refusal
   next0 i = mco_of i q.mco1 >>= next1
 
-  same_mcos : (m k : Mcos) → ok k ≡ ok m → GoodMcos k → GoodMcos m
+  same_mcos : (m k : Mcos) → ◌≡◌ {A = Result Mcos Refusal} (Ok k) (Ok m) → GoodMcos k → GoodMcos m
   same_mcos m k e g = let f : k ≡ m = cc in subst (λ (x : Mcos). GoodMcos x) f g
 
-  mcos_good : (m : Mcos) → mcos_of q l system ≡ ok m → GoodMcos m
+  mcos_good : (m : Mcos) → mcos_of q l system ≡ Ok m → GoodMcos m
   unfolding mcos_of
   mcos_good m e =
       let e₁ = bind_ok input1 next0 m e in
@@ -182,29 +179,29 @@ module _ (q : Request) (l : List PllPlan) (system : ℕ) where
       })
 
 -- ---- the plan of what was chosen
-module _ (q : Request) (c : ChipState) (l : List PllPlan) (b : Buses) (m : Mcos) (g : GoodPlls q c.three l) (u : GoodBuses (system_from q l) b) (v : GoodMcos q l (system_from q l) m) where
+module _ (q : Request) (c : ChipState) (l : List (Option PllSettings)) (b : Buses) (m : Mcos) (g : GoodPlls q c.three l) (u : GoodBuses (system_from q l) b) (v : GoodMcos q l (system_from q l) m) where
   abbrev plan : Plan
   plan = plan_with q c l b m
 
-  each_pll : (j : ℕ) → j < 3 → (s : PllSettings) → pll_in plan j ≡ Runs s → GoodPll (pll_at q j).strategy (source_of q) s
+  each_pll : (j : ℕ) → j < 3 → (s : PllSettings) → pll_in plan j ≡ Some s → GoodPll (pll_at q j).strategy (source_of q) s
   unfolding plan_with
   each_pll zero h s w = g.first s w
   each_pll (suc zero) h s w = g.second s w
   each_pll (suc (suc zero)) h s w = (g.last s w).1
   each_pll (suc (suc (suc j))) h s w = absurd (omega arith)
 
-  third_there : (s : PllSettings) → pll_in plan 2 ≡ Runs s → plan.three ≡ true
+  third_there : (s : PllSettings) → pll_in plan 2 ≡ Some s → plan.three ≡ true
   unfolding plan_with
   third_there s w = (g.last s w).0
 
   system_by : (t : Bool) → needs_pll1 q ≡ t → System q plan
   unfolding plan_with
-  system_by false e = source (ap (λ (t : Bool). sw_of t q.hse) e) (ap (λ (t : Bool). cond t (hertz_or (p_clock (pll_from l 0)) 0) (source_of q)) e)
+  system_by false e = source (ap (λ (t : Bool). sw_of t q.hse) e) (ap (λ (t : Bool). cond t (unwrap_or (p_clock (pll_from l 0)) 0) (source_of q)) e)
   system_by true e =
       let y = g.needed e in
-      let sys : system_from q l ≡ hertz_or (p_clock (pll_from l 0)) 0 = ap (λ (t : Bool). cond t (hertz_or (p_clock (pll_from l 0)) 0) (source_of q)) e in
-      let hz : hertz_or (p_clock (pll_from l 0)) 0 ≡ y.0 = ap (λ (x : Hertz). hertz_or x 0) y.1 in
-      pll1_p (ap (λ (t : Bool). sw_of t q.hse) e) (y.1 ∙ ap Hz (sym (sys ∙ hz)))
+      let sys : system_from q l ≡ unwrap_or (p_clock (pll_from l 0)) 0 = ap (λ (t : Bool). cond t (unwrap_or (p_clock (pll_from l 0)) 0) (source_of q)) e in
+      let hz : unwrap_or (p_clock (pll_from l 0)) 0 ≡ y.0 = ap (λ (x : Option ℕ). unwrap_or x 0) y.1 in
+      pll1_p (ap (λ (t : Bool). sw_of t q.hse) e) (y.1 ∙ ap Some (sym (sys ∙ hz)))
 
   peripheral_by : GoodPeripheral q.hse (peripheral_of q.peripheral q.hse) → Peripheral q plan
   unfolding plan_with
@@ -244,36 +241,34 @@ module _ (q : Request) (c : ChipState) (l : List PllPlan) (b : Buses) (m : Mcos)
 
 -- ---- every plan that the rules give
 module _ (q : Request) (c : ChipState) where
-  abbrev step3 : List PllPlan → Buses → Mcos → Result Plan
-  step3 l b m = ok (plan_with q c l b m)
+  abbrev step3 : List (Option PllSettings) → Buses → Mcos → Result Plan Refusal
+  step3 l b m = Ok (plan_with q c l b m)
 
-  abbrev step2 : List PllPlan → Buses → Result Plan
+  abbrev step2 : List (Option PllSettings) → Buses → Result Plan Refusal
   step2 l b = mcos_of q l (system_from q l) >>= step3 l b
 
-  abbrev step1 : List PllPlan → Result Plan
+  abbrev step1 : List (Option PllSettings) → Result Plan Refusal
   step1 l = hsi_ready c >> (buses_of q (system_from q l) >>= step2 l)
 
-  pub chosen_good : (p : Plan) → chosen_plan q c ≡ ok p → Consistent q p
+  pub chosen_good : (p : Plan) → chosen_plan q c ≡ Ok p → Consistent q p
   unfolding chosen_plan
   chosen_good p e =
       let e₁ = bind_ok (plls_of q c) step1 p e in
-      let l : List PllPlan = e₁.0 in
+      let l : List (Option PllSettings) = e₁.0 in
       let e₂ = then_ok (hsi_ready c) (buses_of q (system_from q l) >>= step2 l) p e₁.2 in
       let e₃ = bind_ok (buses_of q (system_from q l)) (step2 l) p e₂.2 in
       let e₄ = bind_ok (mcos_of q l (system_from q l)) (step3 l e₃.0) p e₃.2 in
       same_plan p (plan_with q c l e₃.0 e₄.0) e₄.2 (plan_good q c l e₃.0 e₄.0 (plls_good q c l e₁.1) (buses_good q (system_from q l) e₃.0 e₃.1) (mcos_good q l (system_from q l) e₄.0 e₄.1))
     where
-      same_plan : (p k : Plan) → ok k ≡ ok p → Consistent q k → Consistent q p
+      same_plan : (p k : Plan) → ◌≡◌ {A = Result Plan Refusal} (Ok k) (Ok p) → Consistent q k → Consistent q p
       same_plan p k e g = let f : k ≡ p = cc in subst (λ (x : Plan). Consistent q x) f g
 
-  pub plan_reads : Reads q (answer_to q c)
-  unfolding answer_to entries_of bank_of
-  plan_reads = go (chosen_plan q c) refl
-    where
-      go : (r : Result Plan) → chosen_plan q c ≡ r → Reads q (answered r)
-      go (refused n) e a = absurd (let z : ◌≡◌ {A = ℕ} 0 1 = cc in omega arith)
-      go (ok p) e a = two_readings q p (chosen_good p e)
+  pub plan_reads : Reads q (chosen_plan q c)
+  unfolding entries_of bank_of
+  plan_reads p e = rw e (two_readings q p (chosen_good p e))
 
-  pub bank_reads : (b b₁ : List ℕ) → b₁ ≡ apply_all (entries_of (answer_to q c)) b → BankReads q (answer_to q c) b b₁
-  bank_reads b b₁ e a r =
-      subst (λ (x : List ℕ). TwoReadings q (answer_to q c).plan x) (sym (e ∙ ap (apply_all (entries_of (answer_to q c))) r)) (plan_reads a)
+  -- an answer that is the same plan, whose whole list was applied to b
+  pub bank_reads : (x : Result Plan Refusal) (p : Plan) → chosen_plan q c ≡ Ok p → x ≡ Ok p → (b b₁ : List ℕ) → b₁ ≡ apply_all (entries_of x) b → b ≡ reset_bank → TwoReadings q p b₁
+  bank_reads x p e h b b₁ f r =
+      let g : entries_of (chosen_plan q c) ≡ entries_of x = ap entries_of (e ∙ sym h) in
+      subst (λ (l : List ℕ). TwoReadings q p l) (sym (f ∙ ap (apply_all (entries_of x)) r ∙ ap (λ (es : List Entry). apply_all es reset_bank) (sym g))) (plan_reads p e)

@@ -1,17 +1,18 @@
 -- Demand 3 says something: a plan that covers every clock, a report that is lower, and lists and banks that break the claim.
+use Rattle.std.specs.Prelude.{Some, None, Result}
 use mathlib.Core.Path.{◌≡◌, refl, sym, ◌∙◌, ap}
 use mathlib.Core.Bool.{true, false, cond}
 use mathlib.Core.List.{List, [], ◌∷◌}
 use Prim.Native.Nat.{ℕ, ◌*◌, ◌/◌, ◌%◌, ◌<◌}
 use native.Mathlib.Omega.{arith}
 use lib.Dec.{eqb}
-use Rattle.types.specs.declared.Hertz.TheVariants.{Unset, Hz}
+use Rattle.types.specs.declared.Refusal.{Refusal}
+use Rattle.types.specs.declared.Plan.{Plan}
 use Rattle.types.specs.declared.Strategy.TheVariants.{Integer, Fractional}
 use Rattle.types.specs.declared.Request.{Request}
-use Rattle.types.specs.declared.Planned.{Planned}
 use Rattle.types.specs.declared.Entry.{Entry}
 use Rattle.types.specs.declared.Entry.TheVariants.{Set, Set2, Set3, Set4, Wait, Wait2, Check, Read}
-use Rattle.rules.specs.Document01.Plan.{answer_to}
+use Rattle.rules.specs.Document01.Plan.{chosen_plan}
 use Rattle.rules.specs.Document01.Entries.{entries_of}
 use Rattle.rules.specs.Document01.Bank.{apply_all, reset_bank}
 use Rattle.rules.specs.Manual.Path.{pll1, pll2, pll3, by, whole, Path, direct, through, num, den, floored, NoRemainder, Near}
@@ -19,22 +20,22 @@ use Rattle.rules.specs.Manual.Tree.{fed_by, none, along, P, Q, R, Clock, sys, hc
 use Rattle.claims.specs.Demands.Report.{reported, hertz_of}
 use Rattle.claims.specs.Demands.Readings.{started, steady, Covered, TreeReads, TwoReadings}
 use Rattle.rules.proofs.Computes.{by_rules, by_tree}
-use Rattle.rules.proofs.Samples.{pll, on_hsi, fullest, state, state3, a, plan_a}
+use Rattle.rules.proofs.Samples.{pll, on_hsi, fullest, state, state3, a, plan_a, plan_in}
 use Rattle.claims.proofs.Readings.Link.{plan_reads}
 
 -- D: PLL2 P 12,288,000 in Integer strategy
 abbrev d : Request
-d = on_hsi (pll Integer (Hz 12_288_000) Unset)
+d = on_hsi (pll Integer (Some 12_288_000) None)
 
-abbrev plan_d : Planned
-plan_d = answer_to d (state true)
+abbrev plan_d : Result Plan Refusal
+plan_d = chosen_plan d (state true)
 
 -- ---- clocks covered
 pub record SettingA : Type 0 where
-  pub sysck : Covered a plan_a.plan (started plan_a.plan) sys 250_000_000
-  pub ahb : Covered a plan_a.plan (started plan_a.plan) hclk 250_000_000
-  pub apb1 : Covered a plan_a.plan (started plan_a.plan) pclk1 250_000_000
-  pub pll1p : Covered a plan_a.plan (started plan_a.plan) (output pll1 P) 250_000_000
+  pub sysck : Covered a (plan_in plan_a) (started (plan_in plan_a)) sys 250_000_000
+  pub ahb : Covered a (plan_in plan_a) (started (plan_in plan_a)) hclk 250_000_000
+  pub apb1 : Covered a (plan_in plan_a) (started (plan_in plan_a)) pclk1 250_000_000
+  pub pll1p : Covered a (plan_in plan_a) (started (plan_in plan_a)) (output pll1 P) 250_000_000
 
 pub setting_a : SettingA
 unfolding by_rules
@@ -46,16 +47,16 @@ setting_a = record {
 }
 
 -- ---- what the tree gives from the banks of A and D
-pub path_a : path_of (apply_all (entries_of plan_a) reset_bank) (fed_by Unset) pclk1 ≡ along (through pll1 32_000_000 8 (whole 125) (2 ∷ 1 ∷ 1 ∷ []))
+pub path_a : path_of (apply_all (entries_of plan_a) reset_bank) (fed_by None) pclk1 ≡ along (through pll1 32_000_000 8 (whole 125) (2 ∷ 1 ∷ 1 ∷ []))
 unfolding by_tree
 path_a = refl
 
-pub path_d : path_of (apply_all (entries_of plan_d) reset_bank) (fed_by Unset) (output pll2 P) ≡ along (through pll2 32_000_000 18 (whole 235) (34 ∷ []))
+pub path_d : path_of (apply_all (entries_of plan_d) reset_bank) (fed_by None) (output pll2 P) ≡ along (through pll2 32_000_000 18 (whole 235) (34 ∷ []))
 unfolding by_tree
 path_d = refl
 
 -- D is covered, M leaves a remainder, and the report is lower: 12,287,576 × 612 against 32,000,000 × 235
-pub covered_d : Covered d plan_d.plan (started plan_d.plan) (output pll2 P) 12_287_576
+pub covered_d : Covered d (plan_in plan_d) (started (plan_in plan_d)) (output pll2 P) 12_287_576
 unfolding by_rules
 covered_d = record { report = refl; steady_path = refl }
 
@@ -66,7 +67,7 @@ remainder_d h = let z : ◌≡◌ {A = ℕ} (32_000_000 % 18) 0 = h.0 in omega a
 pub lower_d : (12_287_576 * den (through pll2 32_000_000 18 (whole 235) (34 ∷ [])) < num (through pll2 32_000_000 18 (whole 235) (34 ∷ []))) × Near (through pll2 32_000_000 18 (whole 235) (34 ∷ [])) 12_287_576
 unfolding by_rules
 lower_d =
-    let t : TreeReads (apply_all (entries_of plan_d) reset_bank) (fed_by Unset) (output pll2 P) 12_287_576 = (plan_reads d (state true) refl).reads (output pll2 P) 12_287_576 covered_d in
+    let t : TreeReads (apply_all (entries_of plan_d) reset_bank) (fed_by None) (output pll2 P) 12_287_576 = (plan_reads d (state true) (plan_in plan_d) refl).reads (output pll2 P) 12_287_576 covered_d in
     let same : through pll2 32_000_000 18 (whole 235) (34 ∷ []) ≡ t.path = along_same _ _ (sym path_d ∙ t.found) in
     rw same (t.readings.lower (rw (← same) remainder_d))
   where
@@ -79,42 +80,42 @@ more_than_one_d = omega arith
 
 -- ---- clocks that are reported and not covered: PLL2 P in Fractional strategy (C), and PLL2 Q alone, whose PLL is not started: the tree gives it none
 abbrev c : Request
-c = on_hsi (pll Fractional (Hz 12_288_000) Unset)
+c = on_hsi (pll Fractional (Some 12_288_000) None)
 
 abbrev q_alone : Request
-q_alone = on_hsi (pll Integer Unset (Hz 48_000_000))
+q_alone = on_hsi (pll Integer None (Some 48_000_000))
 
-abbrev plan_on : Request → Planned
-plan_on q = answer_to q (state true)
+abbrev plan_on : Request → Result Plan Refusal
+plan_on q = chosen_plan q (state true)
 
-pub fractional_left_out : hertz_of (reported (plan_on c).plan) (output pll2 P) ≡ Hz 12_287_997
+pub fractional_left_out : hertz_of (reported (plan_in (plan_on c))) (output pll2 P) ≡ Some 12_287_997
 unfolding by_rules
 fractional_left_out = refl
 
-pub fractional_not_steady : steady c (started (plan_on c).plan) (by pll2) ≡ false
+pub fractional_not_steady : steady c (started (plan_in (plan_on c))) (by pll2) ≡ false
 unfolding by_rules
 fractional_not_steady = refl
 
-pub q_alone_left_out : hertz_of (reported (plan_on q_alone).plan) (output pll2 Q) ≡ Hz 48_000_000
+pub q_alone_left_out : hertz_of (reported (plan_in (plan_on q_alone))) (output pll2 Q) ≡ Some 48_000_000
 unfolding by_rules
 q_alone_left_out = refl
 
-pub q_alone_not_steady : steady q_alone (started (plan_on q_alone).plan) (by pll2) ≡ false
+pub q_alone_not_steady : steady q_alone (started (plan_in (plan_on q_alone))) (by pll2) ≡ false
 unfolding by_rules
 q_alone_not_steady = refl
 
-pub q_alone_dark : path_of (apply_all (entries_of (plan_on q_alone)) reset_bank) (fed_by Unset) (output pll2 Q) ≡ none
+pub q_alone_dark : path_of (apply_all (entries_of (plan_on q_alone)) reset_bank) (fed_by None) (output pll2 Q) ≡ none
 unfolding by_tree
 q_alone_dark = refl
 
 -- ---- a plan that covers every clock there is: HSE 8,000,000, three PLLs with all their outputs, both MCOs
 abbrev all : Request
-all = fullest Unset Unset (Hz 48_000_000)
+all = fullest None None (Some 48_000_000)
 
-abbrev plan_all : Planned
-plan_all = answer_to all (state3 true true true)
+abbrev plan_all : Result Plan Refusal
+plan_all = chosen_plan all (state3 true true true)
 
-pub all_covered : (k : Clock) → (r : ℕ) × Covered all plan_all.plan (started plan_all.plan) k r
+pub all_covered : (k : Clock) → (r : ℕ) × Covered all (plan_in plan_all) (started (plan_in plan_all)) k r
 unfolding by_rules
 all_covered sys = (250_000_000, record { report = refl; steady_path = refl })
 all_covered hclk = (125_000_000, record { report = refl; steady_path = refl })
@@ -170,7 +171,7 @@ exchanged f g (Check h v ∷ es) = Check h v ∷ exchanged f g es
 exchanged f g (Read h ∷ es) = Read h ∷ exchanged f g es
 
 -- the tree gives a clock that is covered none
-lost : (b : List ℕ) → path_of b (fed_by Unset) sys ≡ none → TwoReadings a plan_a.plan b → ⊥
+lost : (b : List ℕ) → path_of b (fed_by None) sys ≡ none → TwoReadings a (plan_in plan_a) b → ⊥
 lost b e h =
     let t = h.reads sys 250_000_000 setting_a.sysck in
     let f : none ≡ along t.path = sym e ∙ t.found in
@@ -178,7 +179,7 @@ lost b e h =
     omega arith
 
 -- the tree gives it a path that ends with other hertz
-differs : (b : List ℕ) (path : Path) → path_of b (fed_by Unset) sys ≡ along path → (floored path ≡ 250_000_000 → ⊥) → TwoReadings a plan_a.plan b → ⊥
+differs : (b : List ℕ) (path : Path) → path_of b (fed_by None) sys ≡ along path → (floored path ≡ 250_000_000 → ⊥) → TwoReadings a (plan_in plan_a) b → ⊥
 differs b path e n h =
     let t = h.reads sys 250_000_000 setting_a.sysck in
     let f : along path ≡ along t.path = sym e ∙ t.found in
@@ -186,26 +187,26 @@ differs b path e n h =
     n (ap floored same ∙ sym t.readings.floor)
 
 -- PLL1 ON left out: word 13
-pub without_on : TwoReadings a plan_a.plan (apply_all (without 13 (entries_of plan_a)) reset_bank) → ⊥
+pub without_on : TwoReadings a (plan_in plan_a) (apply_all (without 13 (entries_of plan_a)) reset_bank) → ⊥
 unfolding by_tree
 without_on = lost _ refl
 
 -- PLL1 PEN left out: word 7
-pub without_pen : TwoReadings a plan_a.plan (apply_all (without 7 (entries_of plan_a)) reset_bank) → ⊥
+pub without_pen : TwoReadings a (plan_in plan_a) (apply_all (without 7 (entries_of plan_a)) reset_bank) → ⊥
 unfolding by_tree
 without_pen = lost _ refl
 
 -- SW left out: word 67, so that the system clock stays at HSI
-pub without_sw : TwoReadings a plan_a.plan (apply_all (without 67 (entries_of plan_a)) reset_bank) → ⊥
+pub without_sw : TwoReadings a (plan_in plan_a) (apply_all (without 67 (entries_of plan_a)) reset_bank) → ⊥
 unfolding by_tree floored
 without_sw = differs _ (direct 32_000_000 []) refl (λ e. let z : ◌≡◌ {A = ℕ} 32_000_000 250_000_000 = e in omega arith)
 
 -- M and N in each other's place: words 2 and 3
-pub m_for_n : TwoReadings a plan_a.plan (apply_all (exchanged 2 3 (entries_of plan_a)) reset_bank) → ⊥
+pub m_for_n : TwoReadings a (plan_in plan_a) (apply_all (exchanged 2 3 (entries_of plan_a)) reset_bank) → ⊥
 unfolding by_tree floored
 m_for_n = differs _ (through pll1 32_000_000 124 (whole 9) (2 ∷ [])) refl (λ e. let z : ◌≡◌ {A = ℕ} (32_000_000 / 124 * 9 / 2) 250_000_000 = e in omega arith)
 
 -- a bank call that writes nothing
-pub nothing_written : TwoReadings a plan_a.plan reset_bank → ⊥
+pub nothing_written : TwoReadings a (plan_in plan_a) reset_bank → ⊥
 unfolding by_tree floored
 nothing_written = differs _ (direct 32_000_000 []) refl (λ e. let z : ◌≡◌ {A = ℕ} 32_000_000 250_000_000 = e in omega arith)

@@ -1,12 +1,10 @@
 -- What PLL i's own list leaves in PLL i's fields, over fields that were 0. Once, with i as a parameter.
+use Rattle.std.specs.Prelude.{Option, Some, None}
 use mathlib.Core.Path.{◌≡◌, refl, ◌∙◌, ap}
 use mathlib.Core.Logic.{◌≢◌}
 use Prim.Native.Nat.{ℕ, ◌+◌, ◌-◌, ◌*◌, ◌≤◌, ◌<◌}
 use native.Mathlib.Omega.{arith}
 use Rattle.types.specs.declared.PllOutput.{PllOutput}
-use Rattle.types.specs.declared.PllOutput.TheVariants.{Off, On}
-use Rattle.types.specs.declared.Fraction.{Fraction}
-use Rattle.types.specs.declared.Fraction.TheVariants.{Whole, Part}
 use Rattle.types.specs.declared.PllSettings.{PllSettings}
 use Rattle.rules.specs.Document01.Entries.{output_entries, fraction_entries, base_entries, setting_entries}
 use Rattle.rules.proofs.Document01.Last.{val_all, avoid, put_same, put_other}
@@ -15,37 +13,37 @@ use Rattle.claims.proofs.Readings.Segments.{output_keeps, fraction_keeps, settin
 use Rattle.claims.proofs.Readings.Consistent.{setting_of}
 
 -- ---- the words of an output and of a fraction
-abbrev pub divider_word : PllOutput → ℕ
-divider_word Off = 0
-divider_word (On d h) = d - 1
+abbrev pub divider_word : Option PllOutput → ℕ
+divider_word None = 0
+divider_word (Some o) = o.divider - 1
 
-abbrev pub enable_bit : PllOutput → ℕ
-enable_bit Off = 0
-enable_bit (On d h) = 1
+abbrev pub enable_bit : Option PllOutput → ℕ
+enable_bit None = 0
+enable_bit (Some o) = 1
 
-abbrev pub fracen_bit : Fraction → ℕ
-fracen_bit Whole = 0
-fracen_bit (Part f) = 1
+abbrev pub fracen_bit : Option ℕ → ℕ
+fracen_bit None = 0
+fracen_bit (Some f) = 1
 
-abbrev pub fracn_word : Fraction → ℕ
-fracn_word Whole = 0
-fracn_word (Part f) = f
+abbrev pub fracn_word : Option ℕ → ℕ
+fracn_word None = 0
+fracn_word (Some f) = f
 
-output_divider : (div en : ℕ) (o : PllOutput) → div ≢ en → val_all (output_entries div en o) div 0 ≡ divider_word o
-output_divider div en Off h = put_other div en 0 0 h
-output_divider div en (On n x) h = put_other div en 1 _ h ∙ put_same div (n - 1) 0
+output_divider : (div en : ℕ) (o : Option PllOutput) → div ≢ en → val_all (output_entries div en o) div 0 ≡ divider_word o
+output_divider div en None h = put_other div en 0 0 h
+output_divider div en (Some o) h = put_other div en 1 _ h ∙ put_same div (o.divider - 1) 0
 
-output_enable : (div en : ℕ) (o : PllOutput) → val_all (output_entries div en o) en 0 ≡ enable_bit o
-output_enable div en Off = put_same en 0 0
-output_enable div en (On n x) = put_same en 1 _
+output_enable : (div en : ℕ) (o : Option PllOutput) → val_all (output_entries div en o) en 0 ≡ enable_bit o
+output_enable div en None = put_same en 0 0
+output_enable div en (Some o) = put_same en 1 _
 
-fraction_fracen : (i : ℕ) (c : Fraction) → val_all (fraction_entries i c) (15 * i + 5) 0 ≡ fracen_bit c
-fraction_fracen i Whole = refl
-fraction_fracen i (Part n) = put_same (15 * i + 5) 1 _
+fraction_fracen : (i : ℕ) (c : Option ℕ) → val_all (fraction_entries i c) (15 * i + 5) 0 ≡ fracen_bit c
+fraction_fracen i None = refl
+fraction_fracen i (Some n) = put_same (15 * i + 5) 1 _
 
-fraction_fracn : (i : ℕ) (c : Fraction) → val_all (fraction_entries i c) (15 * i + 4) 0 ≡ fracn_word c
-fraction_fracn i Whole = refl
-fraction_fracn i (Part n) =
+fraction_fracn : (i : ℕ) (c : Option ℕ) → val_all (fraction_entries i c) (15 * i + 4) 0 ≡ fracn_word c
+fraction_fracn i None = refl
+fraction_fracn i (Some n) =
     put_other (15 * i + 4) (15 * i + 5) 1 _ (omega arith) ∙ put_other (15 * i + 4) (15 * i + 5) 0 _ (omega arith) ∙ put_same (15 * i + 4) n 0
 
 module _ (i : ℕ) (s : PllSettings) where

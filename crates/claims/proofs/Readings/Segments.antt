@@ -1,4 +1,5 @@
 -- The whole list of a plan, segment by segment: which segments leave a field alone.
+use Rattle.std.specs.Prelude.{Option, Some, None}
 use mathlib.Core.Path.{◌≡◌, refl, ◌∙◌, ap}
 use mathlib.Core.Logic.{◌≢◌}
 use mathlib.Core.Bool.{Bool, true, false}
@@ -7,14 +8,7 @@ use Prim.Native.Nat.{ℕ, zero, suc, ◌+◌, ◌*◌, ◌<◌}
 use native.Mathlib.Omega.{arith}
 use Rattle.types.specs.declared.Entry.{Entry}
 use Rattle.types.specs.declared.PllOutput.{PllOutput}
-use Rattle.types.specs.declared.PllOutput.TheVariants.{Off, On}
-use Rattle.types.specs.declared.Fraction.{Fraction}
-use Rattle.types.specs.declared.Fraction.TheVariants.{Whole, Part}
 use Rattle.types.specs.declared.PllSettings.{PllSettings}
-use Rattle.types.specs.declared.Pll.{Pll}
-use Rattle.types.specs.declared.Pll.TheVariants.{Idle, Runs}
-use Rattle.types.specs.declared.Hertz.{Hertz}
-use Rattle.types.specs.declared.Hertz.TheVariants.{Unset, Hz}
 use Rattle.types.specs.declared.Plan.{Plan}
 use Rattle.rules.specs.Document01.Entries.{output_entries, fraction_entries, base_entries, setting_entries, setup_entries, pll_in, clock_entries, hse_entries, source_entries, output_start, start_entries, bus_entries, plan_entries, list_with}
 use Rattle.rules.proofs.Document01.Last.{val_all, val_append, avoid}
@@ -41,13 +35,13 @@ pub other_field : (i j k l : ℕ) → k < 15 → l < 15 → k ≢ l → 15 * j +
 other_field i j k l a b c = omega arith
 
 -- ---- which fields a segment leaves alone
-pub output_keeps : (div en : ℕ) (o : PllOutput) (f d : ℕ) → f ≢ div → f ≢ en → val_all (output_entries div en o) f d ≡ d
-output_keeps div en Off f d a b = avoid (output_entries div en Off) f d (omega arith)
-output_keeps div en (On n h) f d a b = avoid (output_entries div en (On n h)) f d (omega arith)
+pub output_keeps : (div en : ℕ) (o : Option PllOutput) (f d : ℕ) → f ≢ div → f ≢ en → val_all (output_entries div en o) f d ≡ d
+output_keeps div en None f d a b = avoid (output_entries div en None) f d (omega arith)
+output_keeps div en (Some o) f d a b = avoid (output_entries div en (Some (record { divider = o.divider; clock = o.clock }))) f d (omega arith)
 
-pub fraction_keeps : (i : ℕ) (c : Fraction) (f d : ℕ) → f ≢ 15 * i + 4 → f ≢ 15 * i + 5 → val_all (fraction_entries i c) f d ≡ d
-fraction_keeps i Whole f d a b = refl
-fraction_keeps i (Part n) f d a b = avoid (fraction_entries i (Part n)) f d (omega arith)
+pub fraction_keeps : (i : ℕ) (c : Option ℕ) (f d : ℕ) → f ≢ 15 * i + 4 → f ≢ 15 * i + 5 → val_all (fraction_entries i c) f d ≡ d
+fraction_keeps i None f d a b = refl
+fraction_keeps i (Some n) f d a b = avoid (fraction_entries i (Some n)) f d (omega arith)
 
 -- PLL i's own list, segment by segment
 pub setting_val : (i : ℕ) (s : PllSettings) (f d : ℕ) → val_all (setting_entries i s) f d
@@ -60,9 +54,9 @@ setting_val i s f d = simp val_append
 abbrev pub Outside : ℕ → ℕ → Type 0
 Outside i f = (l : ℕ) → l < 12 → f ≢ 15 * i + l
 
-pub setup_keeps : (i : ℕ) (x : Pll) (f d : ℕ) → Outside i f → val_all (setup_entries i x) f d ≡ d
-setup_keeps i Idle f d a = refl
-setup_keeps i (Runs s) f d a =
+pub setup_keeps : (i : ℕ) (x : Option PllSettings) (f d : ℕ) → Outside i f → val_all (setup_entries i x) f d ≡ d
+setup_keeps i None f d a = refl
+setup_keeps i (Some s) f d a =
     setting_val i s f d
     ∙ output_keeps _ _ s.r f _ (a 10 (omega arith)) (a 11 (omega arith))
     ∙ output_keeps _ _ s.q f _ (a 8 (omega arith)) (a 9 (omega arith))
@@ -70,21 +64,21 @@ setup_keeps i (Runs s) f d a =
     ∙ fraction_keeps i s.fraction f _ (a 4 (omega arith)) (a 5 (omega arith))
     ∙ avoid (base_entries i s) f d (omega (arith, a 0 (omega arith), a 1 (omega arith), a 2 (omega arith), a 3 (omega arith)))
 
-pub start_keeps : (i : ℕ) (x : Pll) (f d : ℕ) → f ≢ 15 * i + 13 → val_all (start_entries i x) f d ≡ d
-start_keeps i Idle f d a = refl
-start_keeps i (Runs s) f d a = go s.p
+pub start_keeps : (i : ℕ) (x : Option PllSettings) (f d : ℕ) → f ≢ 15 * i + 13 → val_all (start_entries i x) f d ≡ d
+start_keeps i None f d a = refl
+start_keeps i (Some s) f d a = go s.p
   where
-    go : (o : PllOutput) → val_all (output_start i o) f d ≡ d
-    go Off = refl
-    go (On n h) = avoid (output_start i (On n h)) f d (omega arith)
+    go : (o : Option PllOutput) → val_all (output_start i o) f d ≡ d
+    go None = refl
+    go (Some o) = avoid (output_start i (Some (record { divider = o.divider; clock = o.clock }))) f d (omega arith)
 
 pub source_keeps : (three : Bool) (src f d : ℕ) → f ≢ 12 → f ≢ 27 → f ≢ 42 → val_all (source_entries three src) f d ≡ d
 source_keeps true src f d a b c = avoid (source_entries true src) f d (omega arith)
 source_keeps false src f d a b c = avoid (source_entries false src) f d (omega arith)
 
-pub hse_keeps : (x : Hertz) (y : Bool) (f d : ℕ) → f ≢ 58 → f ≢ 59 → val_all (hse_entries x y) f d ≡ d
-hse_keeps Unset y f d a b = refl
-hse_keeps (Hz n) y f d a b = avoid (hse_entries (Hz n) y) f d (omega arith)
+pub hse_keeps : (x : Option ℕ) (y : Bool) (f d : ℕ) → f ≢ 58 → f ≢ 59 → val_all (hse_entries x y) f d ≡ d
+hse_keeps None y f d a b = refl
+hse_keeps (Some n) y f d a b = avoid (hse_entries (Some n) y) f d (omega arith)
 
 pub clock_keeps : (p : Plan) (f d : ℕ) → f < 45 → val_all (clock_entries p.waits p.selectors p.mcos) f d ≡ d
 unfolding clock_entries

@@ -1,4 +1,5 @@
 -- The words that the tree reads, in the bank that a plan's whole list leaves of a bank at reset values.
+use Rattle.std.specs.Prelude.{Option, Some, None}
 use mathlib.Core.Path.{◌≡◌, refl, ◌∙◌, ap}
 use mathlib.Core.Logic.{◌≢◌}
 use mathlib.Core.Bool.{Bool, true, false, cond}
@@ -7,12 +8,7 @@ use Prim.Native.Nat.{ℕ, zero, suc, ◌+◌, ◌-◌, ◌*◌, ◌≤◌, ◌<�
 use native.Mathlib.Omega.{arith}
 use lib.ListN.{length, get_or, get_or-append, get_or-replicate, replicate, length-replicate}
 use Rattle.types.specs.declared.PllOutput.{PllOutput}
-use Rattle.types.specs.declared.PllOutput.TheVariants.{Off, On}
 use Rattle.types.specs.declared.PllSettings.{PllSettings}
-use Rattle.types.specs.declared.Pll.{Pll}
-use Rattle.types.specs.declared.Pll.TheVariants.{Runs}
-use Rattle.types.specs.declared.Hertz.{Hertz}
-use Rattle.types.specs.declared.Hertz.TheVariants.{Unset, Hz}
 use Rattle.types.specs.declared.Plan.{Plan}
 use Rattle.rules.specs.Document01.Entries.{setting_entries, setup_entries, pll_in, clock_entries, hse_entries, source_entries, output_start, start_entries, bus_entries, plan_entries}
 use Rattle.rules.specs.Document01.Bank.{apply_all, reset_bank, reset_rest}
@@ -99,9 +95,9 @@ source_val false src (suc zero) h = refl
 source_val false src (suc (suc zero)) h = refl
 source_val false src (suc (suc (suc j))) h = absurd (omega arith)
 
-start_val : (j : ℕ) (o : PllOutput) → val_all (output_start j o) (15 * j + 13) 0 ≡ enable_bit o
-start_val j Off = refl
-start_val j (On n h) = put_same (15 * j + 13) 1 0
+start_val : (j : ℕ) (o : Option PllOutput) → val_all (output_start j o) (15 * j + 13) 0 ≡ enable_bit o
+start_val j None = refl
+start_val j (Some o) = put_same (15 * j + 13) 1 0
 
 -- ---- all that the tree reads of a PLL that runs
 pub record PllWords (b : List ℕ) (j : ℕ) (s : PllSettings) (src : ℕ) : Type 0 where
@@ -130,9 +126,9 @@ setup_word p j k j3 h = pll_word p j k j3 (omega arith) ∙ own_decides p j k j3
 pub source_word : (p : Plan) (j : ℕ) → j < 3 → word (bank_of p) (15 * j + 12) ≡ src_word p.three p.selectors.src j
 source_word p j j3 = pll_word p j 12 j3 (omega arith) ∙ source_decides p j j3 0 ∙ source_val p.three p.selectors.src j j3
 
-module _ (p : Plan) (j : ℕ) (j3 : j < 3) (s : PllSettings) (is : pll_in p j ≡ Runs s) where
+module _ (p : Plan) (j : ℕ) (j3 : j < 3) (s : PllSettings) (is : pll_in p j ≡ Some s) where
   own_word : (k v : ℕ) → k < 12 → val_all (setting_entries j s) (15 * j + k) 0 ≡ v → word (bank_of p) (15 * j + k) ≡ v
-  own_word k v h e = setup_word p j k j3 h ∙ ap (λ (x : Pll). val_all (setup_entries j x) (15 * j + k) 0) is ∙ e
+  own_word k v h e = setup_word p j k j3 h ∙ ap (λ (x : Option PllSettings). val_all (setup_entries j x) (15 * j + k) 0) is ∙ e
 
   pub pll_words : PllWords (bank_of p) j s (src_word p.three p.selectors.src j)
   pll_words = record {
@@ -142,7 +138,7 @@ module _ (p : Plan) (j : ℕ) (j3 : j < 3) (s : PllSettings) (is : pll_in p j �
     divides = λ o. own_word (divider o) _ (divider_below o) (own_divider j s o);
     enables = λ o. own_word (enable o) _ (enable_below o) (own_enable j s o);
     source = source_word p j j3;
-    on = pll_word p j 13 j3 (omega arith) ∙ start_decides p j j3 0 ∙ ap (λ (x : Pll). val_all (start_entries j x) (15 * j + 13) 0) is ∙ start_val j s.p;
+    on = pll_word p j 13 j3 (omega arith) ∙ start_decides p j j3 0 ∙ ap (λ (x : Option PllSettings). val_all (start_entries j x) (15 * j + 13) 0) is ∙ start_val j s.p;
   }
 
 -- ---- the fields of no PLL
@@ -159,13 +155,13 @@ others p f d h =
 plain : (p : Plan) (f : ℕ) → 45 ≤ f → f < 82 → f ≢ 58 → f ≢ 59 → word (bank_of p) f ≡ val_all (bus_entries p.buses p.selectors) f (val_all (clock_entries p.waits p.selectors p.mcos) f (word reset_bank f))
 plain p f l u a b = word_of p f u ∙ others p f _ l ∙ ap (val_all (bus_entries p.buses p.selectors) f) (hse_keeps p.clocks.hse p.bypass f _ a b)
 
-abbrev pub hse_bit : Hertz → ℕ
-hse_bit Unset = 0
-hse_bit (Hz h) = 1
+abbrev pub hse_bit : Option ℕ → ℕ
+hse_bit None = 0
+hse_bit (Some h) = 1
 
-hse_val : (x : Hertz) (y : Bool) → val_all (hse_entries x y) 58 0 ≡ hse_bit x
-hse_val Unset y = refl
-hse_val (Hz h) y = refl
+hse_val : (x : Option ℕ) (y : Bool) → val_all (hse_entries x y) 58 0 ≡ hse_bit x
+hse_val None y = refl
+hse_val (Some h) y = refl
 
 pub record CoreWords (b : List ℕ) (p : Plan) : Type 0 where
   pub lsion : word b 45 ≡ 1

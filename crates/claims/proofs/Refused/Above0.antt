@@ -1,4 +1,5 @@
 -- A PLL output that is planned is above 0 Hz, and so the ratio of an MCO is at least 1: above 15 is the one way that it is outside 1 to 15.
+use Rattle.std.specs.Prelude.{Option, Some, None, Ok}
 use mathlib.Core.Path.{◌≡◌}
 use mathlib.Core.Bool.{Bool}
 use Prim.Native.Nat.{ℕ, zero, suc, ◌+◌, ◌-◌, ◌*◌, ◌/◌, ◌^◌, ◌≤◌, min}
@@ -7,21 +8,13 @@ use native.Mathlib.Nat.{mul-le-mul}
 use lib.Dec.{lit<}
 use lib.Pow.{pow_pos}
 use Rattle.laws.proofs.Numbers.{le_div}
-use Rattle.types.specs.declared.Hertz.{Hertz}
-use Rattle.types.specs.declared.Hertz.TheVariants.{Unset, Hz}
 use Rattle.types.specs.declared.Strategy.{Strategy}
 use Rattle.types.specs.declared.Strategy.TheVariants.{Integer, Fractional}
 use Rattle.types.specs.declared.PllRequest.{PllRequest}
 use Rattle.types.specs.declared.PllOutput.{PllOutput}
-use Rattle.types.specs.declared.PllOutput.TheVariants.{Off, On}
-use Rattle.types.specs.declared.Fraction.{Fraction}
-use Rattle.types.specs.declared.Fraction.TheVariants.{Whole, Part}
 use Rattle.types.specs.declared.PllSettings.{PllSettings}
-use Rattle.types.specs.declared.Pll.{Pll}
-use Rattle.types.specs.declared.Pll.TheVariants.{Idle, Runs}
 use Rattle.ieee754.specs.Whole.{unit, whole, times, plus, over, vco_whole}
 use Rattle.ieee754.proofs.Round.{rounded_ge}
-use Rattle.rules.specs.Document01.Result.{ok}
 use Rattle.rules.specs.Document01.OnePll.{first_of, clock_of, p_clock, q_clock}
 use Rattle.rules.specs.Document01.Hertz.{ratio_of}
 use Rattle.rules.specs.Document01.Mco.{planned}
@@ -58,11 +51,11 @@ input_low zero source m h w = let f = w.from in omega arith
 input_low (suc zero) source m h w = let f = w.from in omega arith
 input_low (suc (suc code)) source m h w = let f = w.from in let t = w.to in omega arith
 
-vco_by : (t : Strategy) (source first : ℕ) (s : PllSettings) (f : Fraction) → LegalVco t source first s f → 1_000_000 ≤ s.reference → 4 ≤ s.n → 128 ≤ s.vco
-vco_by Integer source first s Whole l r k = let e = l.product in let p : 1_000_000 * 4 ≤ s.reference * s.n = mul-le-mul r k in omega arith
-vco_by Integer source first s (Part f) l r k = absurd l
-vco_by Fractional source first s Whole l r k = absurd l
-vco_by Fractional source first s (Part f) l r k = let p = vco_whole_is s.reference s.n f (omega arith) (omega arith) in let e = l.vco in omega arith
+vco_by : (t : Strategy) (source first : ℕ) (s : PllSettings) (f : Option ℕ) → LegalVco t source first s f → 1_000_000 ≤ s.reference → 4 ≤ s.n → 128 ≤ s.vco
+vco_by Integer source first s None l r k = let e = l.product in let p : 1_000_000 * 4 ≤ s.reference * s.n = mul-le-mul r k in omega arith
+vco_by Integer source first s (Some f) l r k = absurd l
+vco_by Fractional source first s None l r k = absurd l
+vco_by Fractional source first s (Some f) l r k = let p = vco_whole_is s.reference s.n f (omega arith) (omega arith) in let e = l.vco in omega arith
 
 vco_some : (odd : Bool) (source : ℕ) (a : PllRequest) (s : PllSettings) → Legal odd source a s → 128 ≤ s.vco
 vco_some odd source a s l =
@@ -73,21 +66,21 @@ vco_some odd source a s l =
     vco_by a.strategy source (first_of a) s s.fraction l.vco (omega arith) (omega arith)
 
 -- ---- an output that is planned
-on_some : (vco : ℕ) (w : Hertz) (o : PllOutput) (v : ℕ) → 128 ≤ vco → LegalOutput vco w o → planned (clock_of o) ≡ ok v → 1 ≤ v
-on_some vco w Off v h l e = not_ok e
-on_some vco Unset (On d k) v h l e = absurd l
-on_some vco (Hz w) (On d k) v h l e =
-    let s = l.some in let f = l.field in let q : 1 ≤ vco / d = le_div s (omega arith) in
+on_some : (vco : ℕ) (w : Option ℕ) (o : Option PllOutput) (v : ℕ) → 128 ≤ vco → LegalOutput vco w o → planned (clock_of o) ≡ Ok v → 1 ≤ v
+on_some vco w None v h l e = not_ok e
+on_some vco None (Some o) v h l e = absurd l
+on_some vco (Some w) (Some o) v h l e =
+    let s = l.some in let f = l.field in let q : 1 ≤ vco / o.divider = le_div s (omega arith) in
     let t = l.hertz in let r = ok_same e in omega arith
 
 module _ (odd : Bool) (source : ℕ) (a : PllRequest) where
-  pub p_some : (x : Pll) → LegalPll odd source a x → (v : ℕ) → planned (p_clock x) ≡ ok v → 1 ≤ v
-  p_some Idle l v e = not_ok e
-  p_some (Runs s) l v e = on_some s.vco a.p s.p v (vco_some odd source a s l) l.p e
+  pub p_some : (x : Option PllSettings) → LegalPll odd source a x → (v : ℕ) → planned (p_clock x) ≡ Ok v → 1 ≤ v
+  p_some None l v e = not_ok e
+  p_some (Some s) l v e = on_some s.vco a.p s.p v (vco_some odd source a s l) l.p e
 
-  pub q_some : (x : Pll) → LegalPll odd source a x → (v : ℕ) → planned (q_clock x) ≡ ok v → 1 ≤ v
-  q_some Idle l v e = not_ok e
-  q_some (Runs s) l v e = on_some s.vco a.q s.q v (vco_some odd source a s l) l.q e
+  pub q_some : (x : Option PllSettings) → LegalPll odd source a x → (v : ℕ) → planned (q_clock x) ≡ Ok v → 1 ≤ v
+  q_some None l v e = not_ok e
+  q_some (Some s) l v e = on_some s.vco a.q s.q v (vco_some odd source a s l) l.q e
 
 -- ---- a ratio
 pub ratio_some : (clock h : ℕ) → 1 ≤ clock → 1 ≤ h → 1 ≤ ratio_of clock h

@@ -1,4 +1,5 @@
 -- The bytes of a request: reading them part by part says what the rows by places say, and comes to the request by places.
+use Rattle.std.specs.Prelude.{Some, None, Result, Ok, Err, Option}
 use mathlib.Core.Path.{◌≡◌, refl, ap, ◌∙◌, subst}
 use mathlib.Core.Bool.{Bool, true, false, not, cond, ◌&&◌, ◌||◌}
 use mathlib.Core.List.{List, [], ◌∷◌, ◌++◌, append-nil}
@@ -8,15 +9,14 @@ use lib.Dec.{leb, ltb, eqb}
 use lib.ListN.{length, get_or, drop, drop_of_length-le}
 use lib.Seq.{drop-cons}
 use borrow.Author.Tests.{eqb-true, eqb-false, le-ltb, le-leb}
+use Rattle.types.specs.declared.Refusal.{Refusal}
 use Rattle.laws.proofs.Tests.{by_test}
-use Rattle.types.specs.declared.Hertz.TheVariants.{Unset, Hz}
 use Rattle.types.specs.declared.Strategy.TheVariants.{Integer, Fractional}
 use Rattle.types.specs.declared.Mco1Source.{Mco1Source}
 use Rattle.types.specs.declared.Mco2Source.{Mco2Source}
 use Rattle.types.specs.declared.Request.{Request}
 use Rattle.types.specs.declared.Refusal.TheVariants.{OutsideCodes}
 use Rattle.rules.specs.Document01.Result as Result
-use Rattle.rules.specs.Document01.Result.{Result, refused, ok}
 use Rattle.rules.specs.Document01.Bytes.{Read, Reader, ◌>>=◌, ◌>>◌, return, fits, byte, end, code, u32le, set_to, hertz, flag, mco1_sources, mco1_source, mco2_sources, mco2_source, strategy, pll_part, no_part, third_part, request_part}
 use Rattle.claims.specs.Demands.Rows.{◌when◌}
 use Rattle.claims.specs.Demands.ByPlaces.{at, hertz_at, bad_code, bad_hertz, part_at, request_at}
@@ -37,15 +37,15 @@ says_code n x l = rw (lt_turned x n) (go (leb n x))
     go true = record { same = refl }
     go false = record { same = refl }
 
-says_set : (w : ℕ) (l : List ℕ) → Says (set_to zero w l) (record { value = Unset; rest = l }) ((1 when not (eqb w 0)) ∷ [])
+says_set : (w : ℕ) (l : List ℕ) → Says (set_to zero w l) (record { value = None; rest = l }) ((1 when not (eqb w 0)) ∷ [])
 says_set w l = go (eqb w 0)
   where
-    go : (b : Bool) → Says (Result.◌>>=◌ (fits b l) (λ y. read_as Unset y.rest)) (record { value = Unset; rest = l }) ((1 when not b) ∷ [])
+    go : (b : Bool) → Says (Result.◌>>=◌ (fits b l) (λ y. read_as {A = Option ℕ} None y.rest)) (record { value = None; rest = l }) ((1 when not b) ∷ [])
     go true = record { same = refl }
     go false = record { same = refl }
 
 says_hertz : (x a b c d : ℕ) (l : List ℕ) → let w : ℕ = a + 256 * b + 65_536 * c + 16_777_216 * d in
-    Says (hertz (x ∷ a ∷ b ∷ c ∷ d ∷ l)) (record { value = cond (eqb x 0) Unset (Hz w); rest = l }) ((1 when (leb 2 x || (eqb x 0 && not (eqb w 0)))) ∷ [])
+    Says (hertz (x ∷ a ∷ b ∷ c ∷ d ∷ l)) (record { value = cond (eqb x 0) None (Some w); rest = l }) ((1 when (leb 2 x || (eqb x 0 && not (eqb w 0)))) ∷ [])
 unfolding hertz u32le byte code
 says_hertz zero a b c d l = says_set (a + 256 * b + 65_536 * c + 16_777_216 * d) l
 says_hertz (suc zero) a b c d l = record { same = refl }
@@ -135,10 +135,10 @@ module _ (bytes : List ℕ) where
 -- ---- the length of what is read
 -- a reader that takes w bytes, and one that takes w bytes and finds no more
 abbrev Takes : {A : Type 0} → Reader A → ℕ → Type 0
-Takes {A} r w = (l : List ℕ) (x : Read A) → r l ≡ ok x → length l ≡ w + length x.rest
+Takes {A} r w = (l : List ℕ) (x : Read A) → r l ≡ Ok x → length l ≡ w + length x.rest
 
 abbrev Ends : {A : Type 0} → Reader A → ℕ → Type 0
-Ends {A} r w = (l : List ℕ) (x : Read A) → r l ≡ ok x → length l ≡ w
+Ends {A} r w = (l : List ℕ) (x : Read A) → r l ≡ Ok x → length l ≡ w
 
 takes_then : {A B : Type 0} (r : Reader A) (k : A → Reader B) (w v : ℕ) → Takes r w → ((a : A) → Takes (k a) v) → Takes (r >>= k) (w + v)
 takes_then r k w v g h l x e = with_ok (r l) (λ y. k y.value y.rest) x e λ y p n. let s = g l y p in let t = h y.value y.rest x n in omega arith
@@ -170,8 +170,8 @@ unfolding u32le
 u32le_takes = takes_then byte _ 1 3 byte_takes λ a. takes_then byte _ 1 2 byte_takes λ b. takes_then byte _ 1 1 byte_takes λ c. takes_then byte _ 1 0 byte_takes λ d. return_takes _
 
 set_takes : (set w : ℕ) → Takes (set_to set w) 0
-set_takes zero w = fits_takes (eqb w 0) (return Unset) 0 (return_takes Unset)
-set_takes (suc set) w = return_takes (Hz w)
+set_takes zero w = fits_takes (eqb w 0) (return None) 0 (return_takes None)
+set_takes (suc set) w = return_takes (Some w)
 
 hertz_takes : Takes hertz 5
 unfolding hertz
@@ -210,9 +210,9 @@ request_length false = request_ends false
 
 -- ---- the whole request
 -- of another length it is refused, with 1
-wrong_length : (three : Bool) (bytes : List ℕ) → eqb (length bytes) (cond three 106 90) ≡ false → (x : Result (Read Request)) → request_part three bytes ≡ x → told x ≡ number 1
-wrong_length three bytes f (refused n) e = rw (subst (Only (λ m. m ≡ OutsideCodes)) e (request_only (λ m. m ≡ OutsideCodes) refl three bytes))
-wrong_length three bytes f (ok x) e = absurd (eqb-false (length bytes) (cond three 106 90) f (request_length three bytes x e))
+wrong_length : (three : Bool) (bytes : List ℕ) → eqb (length bytes) (cond three 106 90) ≡ false → (x : Result (Read Request) Refusal) → request_part three bytes ≡ x → told x ≡ number 1
+wrong_length three bytes f (Err n) e = rw (subst (Only (λ m. m ≡ OutsideCodes)) e (request_only (λ m. m ≡ OutsideCodes) refl three bytes))
+wrong_length three bytes f (Ok x) e = absurd (eqb-false (length bytes) (cond three 106 90) f (request_length three bytes x e))
 
 pub says_request : (three : Bool) (bytes : List ℕ) → Says (request_part three bytes) (record { value = request_at three bytes; rest = [] }) (byte_rows three bytes)
 unfolding byte_rows

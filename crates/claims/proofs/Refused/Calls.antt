@@ -1,15 +1,16 @@
 -- The two calls on bytes: the answer is the number of the first row that holds, and a plan where none does.
+use Rattle.std.specs.Prelude.{Option, Ok, Some, None}
 use mathlib.Core.Path.{◌≡◌, refl}
 use mathlib.Core.Bool.{Bool, true, false, not, ◌&&◌, ◌||◌, cond}
 use mathlib.Core.List.{List, append-nil}
-use mathlib.Core.Option.{Option, none, some}
 use Prim.Native.Nat.{ℕ}
 use lib.Dec.{ltb, eqb}
 use Rattle.types.specs.declared.Chip.{Chip}
 use Rattle.types.specs.declared.Refusal.TheVariants.{OutsideCodes, BankLength}
-use Rattle.rules.specs.Document01.Result.{ok, ◌>>◌, require}
+use Rattle.rules.specs.Document01.Result.{◌>>◌, require}
 use Rattle.rules.specs.Document01.Chip.{chip_of, permission}
-use Rattle.rules.specs.Document01.Plan.{Asked, chosen_plan, request_of, plan_of, bank_plan_of, answer_typed, answer_to}
+use Rattle.types.specs.declared.Asked.{Asked}
+use Rattle.rules.specs.Document01.Plan.{chosen_plan, request_of, plan_of, bank_plan_of, answer_typed}
 use Rattle.claims.specs.Demands.Rows.{first_that, AsRows}
 use Rattle.claims.specs.Demands.ByPlaces.{state_of, request_at, part_at}
 use Rattle.claims.specs.Demands.Refused.{chip_rows, byte_rows, code_rows, plan_rows, bank_rows}
@@ -56,12 +57,12 @@ says_asked bytes chip =
     (says_then _ (says_chip chip) (says_then _ (says_request (state_of chip).three bytes) (says_ok (asked_for bytes chip))))
 
 -- bytes that are a request say what stands in their places
-pub by_places : (bytes : List ℕ) (chip : Chip) (a : Asked) → request_of bytes chip ≡ ok a → a ≡ record { request = request_at (state_of chip).three bytes; chip = state_of chip }
+pub by_places : (bytes : List ℕ) (chip : Chip) (a : Asked) → request_of bytes chip ≡ Ok a → a ≡ record { request = request_at (state_of chip).three bytes; chip = state_of chip }
 by_places bytes chip a e = go (first_that (code_rows bytes chip)) (rw e at (says_asked bytes chip).same)
   where
     go : (o : Option ℕ) → value a ≡ said_by o (asked_for bytes chip) → a ≡ asked_for bytes chip
-    go none e = cc
-    go (some n) e = cc
+    go None e = cc
+    go (Some n) e = cc
 
 -- and have nothing in the third part of a request for two PLLs
 fits : (three : Bool) (p : PllRequest) → three || is_no_part (cond three p no_part) ≡ true
@@ -72,16 +73,16 @@ nothing_there : (three : Bool) (bytes : List ℕ) → three || is_no_part (pll_a
 unfolding request_at
 nothing_there three bytes = fits three (part_at bytes 90)
 
-pub third_fits : (bytes : List ℕ) (chip : Chip) (a : Asked) → request_of bytes chip ≡ ok a → answer_typed a.request a.chip ≡ answer_to a.request a.chip
-unfolding answer_typed answer_to
+pub third_fits : (bytes : List ℕ) (chip : Chip) (a : Asked) → request_of bytes chip ≡ Ok a → answer_typed a.request a.chip ≡ chosen_plan a.request a.chip
+unfolding answer_typed chosen_plan
 third_fits bytes chip a e = rw (by_places bytes chip a e, nothing_there (state_of chip).three bytes)
 
 -- ---- the calls
-pub plan_rows_is : (bytes : List ℕ) (chip : Chip) → AsRows (plan_rows bytes chip) (plan_of bytes chip).answer
+pub plan_rows_is : (bytes : List ℕ) (chip : Chip) → AsRows (plan_rows bytes chip) (plan_of bytes chip)
 unfolding plan_of
 plan_rows_is bytes chip = as_rows _ _ (plan_rows bytes chip) (says_then (λ a. chosen_plan a.request a.chip) (says_asked bytes chip) (says_plan (asked_for bytes chip).request (state_of chip)))
 
-pub bank_rows_is : (bytes : List ℕ) (chip : Chip) (words : ℕ) → AsRows (bank_rows bytes chip words) (bank_plan_of bytes chip words).answer
+pub bank_rows_is : (bytes : List ℕ) (chip : Chip) (words : ℕ) → AsRows (bank_rows bytes chip words) (bank_plan_of bytes chip words)
 unfolding bank_plan_of
 bank_rows_is bytes chip words =
     as_rows _ _ (bank_rows bytes chip words)

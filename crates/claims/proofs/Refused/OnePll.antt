@@ -1,30 +1,22 @@
 -- One PLL: its steps say what rows 7 to 15 say, and come to what the rows' own quantities make.
+use Rattle.std.specs.Prelude.{Option, Some, None, Result, Ok, Err, unwrap_or, is_some}
 use mathlib.Core.Path.{◌≡◌, refl}
 use mathlib.Core.Bool.{Bool, true, false, not, cond, ◌&&◌, ◌||◌}
 use mathlib.Core.List.{List, [], ◌∷◌}
-use mathlib.Core.Option.{Option, none, some}
 use Prim.Native.Nat.{ℕ, zero, suc, ◌/◌, ◌%◌, ◌*◌}
 use native.Mathlib.Omega.{arith}
 use lib.Dec.{leb, ltb, eqb}
 use lib.Ieee.{Float, le, to_unsigned}
 use borrow.Author.Tests.{leb-true, leb-false, ltb-true, ltb-false, lt-ltb, le-ltb, le-leb, lt-leb, eqb-true, eqb-false, eq-eqb}
+use Rattle.types.specs.declared.Refusal.{Refusal}
 use Rattle.laws.proofs.Tests.{by_test, either, or_false, never}
-use Rattle.types.specs.declared.Hertz.{Hertz}
-use Rattle.types.specs.declared.Hertz.TheVariants.{Unset, Hz}
 use Rattle.types.specs.declared.Strategy.{Strategy}
 use Rattle.types.specs.declared.Strategy.TheVariants.{Integer, Fractional}
-use Rattle.types.specs.declared.FoundM.{FoundM}
-use Rattle.types.specs.declared.FoundM.TheVariants.{Nothing, M}
-use Rattle.types.specs.declared.Fraction.{Fraction}
-use Rattle.types.specs.declared.Fraction.TheVariants.{Whole, Part}
 use Rattle.types.specs.declared.PllRequest.{PllRequest}
 use Rattle.types.specs.declared.PllSettings.{PllSettings}
-use Rattle.types.specs.declared.Pll.{Pll}
-use Rattle.types.specs.declared.Pll.TheVariants.{Idle, Runs}
 use Rattle.types.specs.declared.Refusal.TheVariants.{OutputZero, OutputsTooFarApart, OutputTooHigh, TargetOutside, NOutside, PDividerAbove128, PDividerOdd}
 use Rattle.ieee754.specs.Steps.{float, fracn_float, accept, fracn_of, vco_of}
-use Rattle.rules.specs.Document01.Result.{Result, refused, ok}
-use Rattle.rules.specs.Document01.Hertz.{is_set, hertz_or, not_zero}
+use Rattle.rules.specs.Document01.Hertz.{not_zero}
 use Rattle.rules.specs.Document01.ChoiceOfM.{in_range, shortfall_of, better_of, best_to, chosen_m}
 use Rattle.rules.specs.Document01.OnePll as Chain
 use Rattle.rules.specs.Document01.OnePll.{wanted, none_zero, vco_by, output_of, clock_of, admissible, first_of, taken, fraction_of, allowed_p, spanned, divided_by, settings_of, settled, runs, running, pll_of, p_clock, q_clock}
@@ -59,12 +51,12 @@ between_turned a b c = rw (le_turned a b, le_turned b c) (go (ltb b a) (ltb c b)
     go true y = refl
     go false y = refl
 
-pub zero_turned : (h : Hertz) → not_zero h ≡ not (is_zero h)
-zero_turned Unset = refl
-zero_turned (Hz h) = refl
+pub zero_turned : (h : Option ℕ) → not_zero h ≡ not (is_zero h)
+zero_turned None = refl
+zero_turned (Some h) = refl
 
 -- ---- 7
-zeros_turned : (p q r : Hertz) → not_zero p && (not_zero q && not_zero r) ≡ not (any is_zero (p ∷ q ∷ r ∷ []))
+zeros_turned : (p q r : Option ℕ) → not_zero p && (not_zero q && not_zero r) ≡ not (any is_zero (p ∷ q ∷ r ∷ []))
 zeros_turned p q r = rw (zero_turned p, zero_turned q, zero_turned r) (go (is_zero p) (is_zero q) (is_zero r))
   where
     go : (x y z : Bool) → not x && (not y && not z) ≡ not (x || (y || (z || false)))
@@ -74,15 +66,15 @@ zeros_turned p q r = rw (zero_turned p, zero_turned q, zero_turned r) (go (is_ze
     go false false false = refl
 
 -- ---- 11
-abbrev is_none : FoundM → Bool
-is_none Nothing = true
-is_none (M m) = false
+abbrev is_none : Option ℕ → Bool
+is_none None = true
+is_none (Some m) = false
 
 module _ (source target low high : ℕ) where
-  better_none : (f : FoundM) (k : ℕ) → is_none (better_of source target low high f k) ≡ is_none f && not (in_range source low high k)
+  better_none : (f : Option ℕ) (k : ℕ) → is_none (better_of source target low high f k) ≡ is_none f && not (in_range source low high k)
   unfolding better_of
-  better_none Nothing k = by_test (in_range source low high k) (λ t. rw t) (λ t. rw t)
-  better_none (M j) k = either (λ (f : FoundM). is_none f ≡ false) (in_range source low high k && ltb (shortfall_of source target k) (shortfall_of source target j)) (M k) (M j) refl refl
+  better_none None k = by_test (in_range source low high k) (λ t. rw t) (λ t. rw t)
+  better_none (Some j) k = either (λ (f : Option ℕ). is_none f ≡ false) (in_range source low high k && ltb (shortfall_of source target k) (shortfall_of source target j)) (Some k) (Some j) refl refl
 
   best_none : (k : ℕ) → is_none (best_to source target low high k) ≡ not (any_to (in_range source low high) k)
   unfolding best_to any_to
@@ -97,20 +89,20 @@ module _ (source target low high : ℕ) where
   unfolding chosen_m
   chosen_none = best_none 63
 
-  says_found : (f : FoundM) → Says (admissible f) (number_m f) ((11 when is_none f) ∷ [])
-  says_found Nothing = record { same = refl }
-  says_found (M k) = record { same = refl }
+  says_found : (f : Option ℕ) → Says (admissible f) (number_m f) ((11 when is_none f) ∷ [])
+  says_found None = record { same = refl }
+  says_found (Some k) = record { same = refl }
 
   says_m : Says (admissible (chosen_m source target low high)) (number_m (chosen_m source target low high)) ((11 when not (any_to (in_range source low high) 63)) ∷ [])
   says_m = rw (← chosen_none) (says_found (chosen_m source target low high))
 
 -- ---- 13
 -- by the strategy, whether or not it is in range
-abbrev pub fraction_by : Strategy → Float → Fraction
-fraction_by Integer f = Whole
-fraction_by Fractional f = Part (to_unsigned 16 f)
+abbrev pub fraction_by : Strategy → Float → Option ℕ
+fraction_by Integer f = None
+fraction_by Fractional f = Some (to_unsigned 16 f)
 
-says_accepted : (t : Bool) (v : ℕ) → Says (taken (accept t v)) (Part v) ((13 when not t) ∷ [])
+says_accepted : (t : Bool) (v : ℕ) → Says (taken (accept t v)) (Some v) ((13 when not t) ∷ [])
 says_accepted true v = record { same = refl }
 says_accepted false v = record { same = refl }
 
@@ -133,22 +125,22 @@ odd_turned : (odd x : Bool) → odd || not x ≡ not (not odd && x)
 odd_turned true x = refl
 odd_turned false x = refl
 
-says_p : (odd : Bool) (t : ℕ) (p : Hertz) → Says (allowed_p odd (Chain.divider_p t p)) tt ((14 when (is_set p && ltb 128 (t / hertz_or p 0))) ∷ (15 when (is_set p && not odd && eqb (t / hertz_or p 0 % 2) 1)) ∷ [])
-says_p true t Unset = record { same = refl }
-says_p false t Unset = record { same = refl }
-says_p odd t (Hz h) =
+says_p : (odd : Bool) (t : ℕ) (p : Option ℕ) → Says (allowed_p odd (Chain.divider_p t p)) tt ((14 when (is_some p && ltb 128 (t / unwrap_or p 0))) ∷ (15 when (is_some p && not odd && eqb (t / unwrap_or p 0 % 2) 1)) ∷ [])
+says_p true t None = record { same = refl }
+says_p false t None = record { same = refl }
+says_p odd t (Some h) =
     says_tested (leb (t / h) 128) PDividerAbove128 (ltb 128 (t / h)) (le_turned (t / h) 128)
     (says_test (odd || eqb (t / h % 2) 0) PDividerOdd (not odd && eqb (t / h % 2) 1) (rw (parity (t / h)) (odd_turned odd (eqb (t / h % 2) 1))))
 
 -- ---- the steps
-says_running : (x : Result PllSettings) (v : PllSettings) (r : List Row) → Says x v r → Says (running x) (Runs v) r
+says_running : (x : Result PllSettings Refusal) (v : PllSettings) (r : List Row) → Says x v r → Says (running x) (Some v) r
 says_running x v r h = record { same = go x (first_that r) h.same }
   where
-    go : (x : Result PllSettings) (o : Option ℕ) → told x ≡ said_by o v → told (running x) ≡ said_by o (Runs v)
-    go (refused k) none e = cc
-    go (refused k) (some j) e = cc
-    go (ok s) none e = cc
-    go (ok s) (some j) e = cc
+    go : (x : Result PllSettings Refusal) (o : Option ℕ) → told x ≡ said_by o v → told (running x) ≡ said_by o (Some v)
+    go (Err k) None e = cc
+    go (Err k) (Some j) e = cc
+    go (Ok s) None e = cc
+    go (Ok s) (Some j) e = cc
 
 module _ (odd : Bool) (source : ℕ) (a : PllRequest) where
   -- the settings of the rows' quantities
@@ -170,17 +162,17 @@ module _ (odd : Bool) (source : ℕ) (a : PllRequest) where
       (says_next (says_p odd (target odd source a) a.p) (says_ok settings_for)))))
 
   -- idle where nothing is requested
-  abbrev pub pll_for : Pll
-  pll_for = cond (wanted a) (Runs settings_for) Idle
+  abbrev pub pll_for : Option PllSettings
+  pll_for = cond (wanted a) (Some settings_for) None
 
   pub says_pll : Says (pll_of odd source a) pll_for (cond (wanted a) (pll_rows odd source a) [])
   unfolding pll_of
-  says_pll = by_test (wanted a) (λ w. rw w (says_running (runs odd source a) settings_for (pll_rows odd source a) says_runs)) (λ w. rw w (says_ok Idle))
+  says_pll = by_test (wanted a) (λ w. rw w (says_running (runs odd source a) settings_for (pll_rows odd source a) says_runs)) (λ w. rw w (says_ok None))
 
   -- ---- what it reports
-  abbrev reported_at : Hertz → Hertz
-  reported_at Unset = Unset
-  reported_at (Hz h) = Hz (vco odd source a / (target odd source a / h))
+  abbrev reported_at : Option ℕ → Option ℕ
+  reported_at None = None
+  reported_at (Some h) = Some (vco odd source a / (target odd source a / h))
 
   vco_is : vco_by (fraction_by a.strategy (fracn odd source a)) (ref odd source a) (n odd source a) ≡ vco odd source a
   vco_is = go a.strategy
@@ -191,40 +183,40 @@ module _ (odd : Bool) (source : ℕ) (a : PllRequest) where
       go Integer = refl
       go Fractional = refl
 
-  on_is : (v : ℕ) → v ≡ vco odd source a → (h : Hertz) → clock_of (output_of (target odd source a) v h) ≡ reported_at h
-  on_is v e Unset = refl
-  on_is v e (Hz h) = rw e
+  on_is : (v : ℕ) → v ≡ vco odd source a → (h : Option ℕ) → clock_of (output_of (target odd source a) v h) ≡ reported_at h
+  on_is v e None = refl
+  on_is v e (Some h) = rw e
 
-  off_is : (h : Hertz) → is_set h ≡ false → Unset ≡ reported_at h
-  off_is Unset f = refl
-  off_is (Hz h) f = absurd (never f)
+  off_is : (h : Option ℕ) → is_some h ≡ false → None ≡ reported_at h
+  off_is None f = refl
+  off_is (Some h) f = absurd (never f)
 
   p_is : p_clock pll_for ≡ reported_at a.p
   p_is =
       by_test (wanted a)
       (λ w. rw w (on_is _ vco_is a.p))
-      (λ w. rw w (off_is a.p (or_false (is_set a.p) (is_set a.q || is_set a.r) w).0))
+      (λ w. rw w (off_is a.p (or_false (is_some a.p) (is_some a.q || is_some a.r) w).0))
 
   q_is : q_clock pll_for ≡ reported_at a.q
   q_is =
       by_test (wanted a)
       (λ w. rw w (on_is _ vco_is a.q))
-      (λ w. rw w (off_is a.q (or_false (is_set a.q) (is_set a.r) (or_false (is_set a.p) (is_set a.q || is_set a.r) w).1).0))
+      (λ w. rw w (off_is a.q (or_false (is_some a.q) (is_some a.r) (or_false (is_some a.p) (is_some a.q || is_some a.r) w).1).0))
 
-  hertz_at_is : (h : Hertz) → hertz_or (reported_at h) 0 ≡ clock_at odd source a h
-  hertz_at_is Unset = refl
-  hertz_at_is (Hz h) = refl
+  hertz_at_is : (h : Option ℕ) → unwrap_or (reported_at h) 0 ≡ clock_at odd source a h
+  hertz_at_is None = refl
+  hertz_at_is (Some h) = refl
 
-  pub p_hertz : hertz_or (p_clock pll_for) 0 ≡ clock_at odd source a a.p
+  pub p_hertz : unwrap_or (p_clock pll_for) 0 ≡ clock_at odd source a a.p
   p_hertz = rw p_is (hertz_at_is a.p)
 
   -- ---- 21
-  says_planned : (h : Hertz) → Says (planned (reported_at h)) (clock_at odd source a h) ((21 when not (is_set h)) ∷ [])
-  says_planned Unset = record { same = refl }
-  says_planned (Hz h) = record { same = refl }
+  says_planned : (h : Option ℕ) → Says (planned (reported_at h)) (clock_at odd source a h) ((21 when not (is_some h)) ∷ [])
+  says_planned None = record { same = refl }
+  says_planned (Some h) = record { same = refl }
 
-  pub says_planned_p : Says (planned (p_clock pll_for)) (clock_at odd source a a.p) ((21 when not (is_set a.p)) ∷ [])
+  pub says_planned_p : Says (planned (p_clock pll_for)) (clock_at odd source a a.p) ((21 when not (is_some a.p)) ∷ [])
   says_planned_p = rw p_is (says_planned a.p)
 
-  pub says_planned_q : Says (planned (q_clock pll_for)) (clock_at odd source a a.q) ((21 when not (is_set a.q)) ∷ [])
+  pub says_planned_q : Says (planned (q_clock pll_for)) (clock_at odd source a a.q) ((21 when not (is_some a.q)) ∷ [])
   says_planned_q = rw q_is (says_planned a.q)

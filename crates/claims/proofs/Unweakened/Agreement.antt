@@ -1,4 +1,5 @@
 -- Demand 2 rules these out: answers and outcomes that do not agree. Each line above a theorem names the weakening that would let it pass.
+use Rattle.std.specs.Prelude.{Result, Ok, IsOk}
 use mathlib.Core.Path.{◌≡◌, refl, sym, ap, ◌∙◌}
 use mathlib.Core.Logic.{◌⊎◌, inl, inr, ⊎_elim}
 use mathlib.Core.Bool.{Bool, true, false}
@@ -6,17 +7,16 @@ use mathlib.Core.List.{List, [], ◌∷◌, ◌++◌, map}
 use Prim.Native.Nat.{ℕ, zero, suc, ◌+◌, ◌-◌, ◌*◌, ◌%◌, ◌<◌, ◌≤◌}
 use native.Mathlib.Omega.{arith}
 use lib.ListN.{length, drop, get_or}
+use Rattle.types.specs.declared.Plan.{Plan}
 use Rattle.types.specs.declared.Request.{Request}
 use Rattle.types.specs.declared.ChipState.{ChipState}
 use Rattle.types.specs.declared.Entry.{Entry}
 use Rattle.types.specs.declared.Entry.TheVariants.{Set}
 use Rattle.types.specs.declared.Refusal.{Refusal}
 use Rattle.types.specs.declared.Refusal.TheVariants.{PDividerAbove128, PDividerOdd}
-use Rattle.types.specs.declared.Answer.TheVariants.{Accepted, Refused}
-use Rattle.types.specs.declared.Planned.{Planned}
 use Rattle.rules.specs.Document01.Refusals.{number_of}
 use Rattle.rules.specs.Document01.Request.{asked_of}
-use Rattle.rules.specs.Document01.Entries.{entries_of, fewest}
+use Rattle.rules.specs.Document01.Entries.{entries_of, fewest, plan_entries}
 use Rattle.rules.proofs.Document01.Length.{accepted_length}
 use Rattle.rules.specs.Words.{entry_words}
 use Rattle.claims.specs.Rust.Run.{Outcome, panics, ends}
@@ -27,7 +27,7 @@ use Rattle.claims.specs.Demands.Report.{reported}
 use Rattle.claims.specs.Demands.Agreement.{Refused14, Refused15, divider_for, Forbidden, Departure, AllowsEachP, Agreement, pll_count}
 use Rattle.rules.proofs.Computes.{by_rules, by_bank}
 use Rattle.laws.proofs.Tests.{never}
-use Rattle.rules.proofs.Samples.{state, state3, a, plan_a}
+use Rattle.rules.proofs.Samples.{state, state3, a, plan_a, plan_in}
 use Rattle.claims.proofs.Agreement.Whole.{agreement}
 use Rattle.claims.proofs.Unweakened.Wrong.{slower_a, planned, refusing}
 use Rattle.rules.specs.Document01.Chip.{odd_at}
@@ -39,22 +39,22 @@ same_clocks : {es fs : List Entry} {j k : CoreClocks} → ends es j ≡ ends fs 
 same_clocks e = cc
 
 -- ---- a plan fixes all entries, in order, and all clocks: any of them left free
-pub entries_fixed : (q : Request) (c : ChipState) (x : Planned) (es : List Entry) (k : CoreClocks) → x.answer ≡ Accepted → Agreement q c x (ends es k) → es ≡ entries_of x
-entries_fixed q c x es k e h = same_entries (h.planned e)
+pub entries_fixed : (q : Request) (c : ChipState) (x : Result Plan Refusal) (p : Plan) (es : List Entry) (k : CoreClocks) → x ≡ Ok p → Agreement q c x (ends es k) → es ≡ plan_entries p
+entries_fixed q c x p es k e h = same_entries (h.planned p e)
 
-pub clocks_fixed : (q : Request) (c : ChipState) (x : Planned) (es : List Entry) (k : CoreClocks) → x.answer ≡ Accepted → Agreement q c x (ends es k) → k ≡ reported x.plan
-clocks_fixed q c x es k e h = same_clocks (h.planned e)
+pub clocks_fixed : (q : Request) (c : ChipState) (x : Result Plan Refusal) (p : Plan) (es : List Entry) (k : CoreClocks) → x ≡ Ok p → Agreement q c x (ends es k) → k ≡ reported p
+clocks_fixed q c x p es k e h = same_clocks (h.planned p e)
 
 -- what freeze does with A
-frozen_a : frozen a (state false) ≡ ends (entries_of plan_a) (reported plan_a.plan)
+frozen_a : frozen a (state false) ≡ ends (plan_entries (plan_in plan_a)) (reported (plan_in plan_a))
 unfolding by_rules
-frozen_a = (agreement a (state false)).planned refl
+frozen_a = (agreement a (state false)).planned (plan_in plan_a) refl
 
 -- clocks not compared: A reported 1 Hz lower
 pub one_clock : Agreement a (state false) (planned slower_a) (frozen a (state false)) → ⊥
 unfolding by_rules
 one_clock h =
-    let k = same_clocks (sym frozen_a ∙ h.planned refl) in
+    let k = same_clocks (sym frozen_a ∙ h.planned slower_a refl) in
     let z : ◌≡◌ {A = ℕ} 250_000_000 249_999_999 = ap (λ (x : CoreClocks). x.sys_ck) k in
     omega arith
 
@@ -63,9 +63,9 @@ shorter : (es : List Entry) → fewest ≤ length es → drop 1 es ≡ es → �
 shorter [] l e = absurd (omega arith)
 shorter (x ∷ es) l e = let z = ap length e in omega arith
 
-pub one_dropped : Agreement a (state false) plan_a (ends (drop 1 (entries_of plan_a)) (reported plan_a.plan)) → ⊥
-unfolding by_rules
-one_dropped h = shorter (entries_of plan_a) (accepted_length plan_a refl).0 (entries_fixed _ _ plan_a _ _ refl h)
+pub one_dropped : Agreement a (state false) plan_a (ends (drop 1 (entries_of plan_a)) (reported (plan_in plan_a))) → ⊥
+unfolding by_bank
+one_dropped h = shorter (entries_of plan_a) (accepted_length plan_a (plan_in plan_a) refl).0 (entries_fixed _ _ plan_a (plan_in plan_a) _ _ refl h)
 
 -- any order: the first two of A's exchanged
 abbrev exchanged : List Entry → List Entry
@@ -73,17 +73,17 @@ exchanged [] = []
 exchanged (e ∷ []) = e ∷ []
 exchanged (e ∷ f ∷ es) = f ∷ e ∷ es
 
-pub two_exchanged : Agreement a (state false) plan_a (ends (exchanged (entries_of plan_a)) (reported plan_a.plan)) → ⊥
+pub two_exchanged : Agreement a (state false) plan_a (ends (exchanged (entries_of plan_a)) (reported (plan_in plan_a))) → ⊥
 unfolding by_bank
 two_exchanged h =
-    let z : ◌≡◌ {A = ℕ} 2 1 = ap (λ (es : List Entry). get_or (get_or (map entry_words es) 0 []) 1 0) (entries_fixed _ _ plan_a _ _ refl h) in
+    let z : ◌≡◌ {A = ℕ} 2 1 = ap (λ (es : List Entry). get_or (get_or (map entry_words es) 0 []) 1 0) (entries_fixed _ _ plan_a (plan_in plan_a) _ _ refl h) in
     omega arith
 
 -- ---- panics
 -- a plan where the Rust panics
 pub plan_for_a_panic : Agreement a (state false) plan_a panics → ⊥
-unfolding by_rules
-plan_for_a_panic h = let e : panics ≡ ends (entries_of plan_a) (reported plan_a.plan) = h.planned refl in let z : ◌≡◌ {A = ℕ} 0 1 = cc in omega arith
+unfolding by_bank
+plan_for_a_panic h = let e : panics ≡ ends (entries_of plan_a) (reported (plan_in plan_a)) = h.planned (plan_in plan_a) refl in let z : ◌≡◌ {A = ℕ} 0 1 = cc in omega arith
 
 -- a refusal other than 14 and 15 where freeze ends
 pub refused_for_a_plan : (q : Request) (c : ChipState) (n : Refusal) (es : List Entry) (k : CoreClocks) → (number_of n ≡ 14 → ⊥) → (number_of n ≡ 15 → ⊥) → Agreement q c (refusing n) (ends es k) → ⊥
@@ -96,12 +96,12 @@ refused_for_a_plan q c n es k n14 n15 h =
 -- a refusal, with any number, where freeze ends and all that it has written is allowed
 pub refused_where_allowed : (q : Request) (c : ChipState) (n : Refusal) (es : List Entry) (k : CoreClocks) → AllowsEachP c es → Agreement q c (refusing n) (ends es k) → ⊥
 refused_where_allowed q c n es k l h =
-    let e : Refused n ≡ Accepted = h.exactly.1 (record { entries = es; clocks = k; end = refl; allowed = l }) in
+    let e : false ≡ true = h.exactly.1 (record { entries = es; clocks = k; end = refl; allowed = l }) in
     let z : ◌≡◌ {A = ℕ} 0 1 = cc in
     omega arith
 
 -- a plan where freeze ends and has written a divider of 5 that is forbidden
-pub plan_where_forbidden : (q : Request) (x : Planned) (k : CoreClocks) → x.answer ≡ Accepted → Agreement q (state false) x (ends (Set 6 4 ∷ []) k) → ⊥
+pub plan_where_forbidden : (q : Request) (x : Result Plan Refusal) (k : CoreClocks) → IsOk x → Agreement q (state false) x (ends (Set 6 4 ∷ []) k) → ⊥
 plan_where_forbidden q x k e h =
     let r = h.exactly.0 e in
     let t : false ≡ true = r.allowed 0 4 [] [] (omega arith) (sym (same_entries r.end)) in

@@ -1,19 +1,19 @@
 -- Demand 3 covers these clocks, and rules these readings out. Lists and banks that break it are in proofs/Readings/NonVacuous.
+use Rattle.std.specs.Prelude.{Some, None, Result}
 use mathlib.Core.Path.{◌≡◌, refl, sym, ap, ◌∙◌}
 use mathlib.Core.Bool.{true, false}
 use mathlib.Core.List.{[], ◌∷◌}
 use Prim.Native.Nat.{ℕ, ◌≤◌}
 use native.Mathlib.Omega.{arith}
 use lib.ListN.{set}
-use Rattle.types.specs.declared.Hertz.TheVariants.{Unset, Hz}
+use Rattle.types.specs.declared.Refusal.{Refusal}
 use Rattle.types.specs.declared.Strategy.TheVariants.{Integer, Fractional}
 use Rattle.types.specs.declared.Mco1Source.{Mco1Source}
 use Rattle.types.specs.declared.Mco2Source.{Mco2Source}
 use Rattle.types.specs.declared.Request.{Request}
 use Rattle.types.specs.declared.Plan.{Plan}
-use Rattle.types.specs.declared.Planned.{Planned}
 use Rattle.rules.specs.Document01.Request.{pll_at}
-use Rattle.rules.specs.Document01.Plan.{answer_to}
+use Rattle.rules.specs.Document01.Plan.{chosen_plan}
 use Rattle.rules.specs.Document01.Entries.{entries_of}
 use Rattle.rules.specs.Document01.Bank.{apply_all, reset_bank}
 use Rattle.rules.specs.Manual.Path.{PllName, pll1, pll2, no_pll, by, whole, part, direct, through, den, floored, Near, Readings}
@@ -21,12 +21,12 @@ use Rattle.rules.specs.Manual.Tree.{fed_by, along, P, Q, Clock, sys, hclk, pclk1
 use Rattle.claims.specs.Demands.Report.{reported, hertz_of}
 use Rattle.claims.specs.Demands.Readings.{via_of, started, steady, Covered, TwoReadings}
 use Rattle.rules.proofs.Computes.{by_rules, by_tree}
-use Rattle.rules.proofs.Samples.{pll, asking, nothing, state, a}
+use Rattle.rules.proofs.Samples.{pll, asking, nothing, state, a, plan_in}
 use Rattle.rules.proofs.Samples as Samples
 use Rattle.claims.proofs.Unweakened.Wrong.{slower_a, planned}
 
 -- ---- covered, whatever the rest of the request: every clock reported whose path has no PLL, or one that is started and in Integer strategy
-module _ (q : Request) (p : Plan) (k : Clock) (r : ℕ) (report : hertz_of (reported p) k ≡ Hz r) where
+module _ (q : Request) (p : Plan) (k : Clock) (r : ℕ) (report : hertz_of (reported p) k ≡ Some r) where
   pub without_pll : via_of q p k ≡ no_pll → Covered q p (started p) k r
   without_pll v = record { report = report; steady_path = rw v }
 
@@ -41,11 +41,11 @@ pub via_none : (q : Request) (p : Plan) → via_of q p per ∷ via_of q p hsi �
 via_none q p = refl
 
 -- ---- a request for nothing, on HSI: a clock with no PLL covered only with an HSE, an LSE or anything else that is requested
-abbrev idle : Planned
-idle = answer_to nothing (state true)
+abbrev idle : Result Plan Refusal
+idle = chosen_plan nothing (state true)
 
 abbrev InIdle : Clock → ℕ → Type 0
-InIdle k r = Covered nothing idle.plan (started idle.plan) k r
+InIdle k r = Covered nothing (plan_in idle) (started (plan_in idle)) k r
 
 pub record HsiAlone : Type 0 where
   pub sysck : InIdle sys 32_000_000
@@ -80,13 +80,13 @@ hsi_alone = record {
 
 -- ---- PLL2 in Integer strategy, PLL1 Fractional: a PLL's clock covered only where another is Integer too. MCO2 from PLL2 P
 abbrev mixed : Request
-mixed = asking Unset Unset Unset Unset Mco1Source.Hsi (Hz 4_000_000) Mco2Source.Pll2P (Hz 6_000_000) (pll Fractional (Hz 12_288_000) Unset) (pll Integer (Hz 30_000_000) (Hz 100_000_000))
+mixed = asking None None None None Mco1Source.Hsi (Some 4_000_000) Mco2Source.Pll2P (Some 6_000_000) (pll Fractional (Some 12_288_000) None) (pll Integer (Some 30_000_000) (Some 100_000_000))
 
-abbrev plan_mixed : Planned
-plan_mixed = answer_to mixed (state true)
+abbrev plan_mixed : Result Plan Refusal
+plan_mixed = chosen_plan mixed (state true)
 
 abbrev InMixed : Clock → ℕ → Type 0
-InMixed k r = Covered mixed plan_mixed.plan (started plan_mixed.plan) k r
+InMixed k r = Covered mixed (plan_in plan_mixed) (started (plan_in plan_mixed)) k r
 
 pub record Pll2Alone : Type 0 where
   pub p : InMixed (output pll2 P) 30_769_230
@@ -95,7 +95,7 @@ pub record Pll2Alone : Type 0 where
   pub first : InMixed mco1 4_000_000
   pub sysck : InMixed sys 32_000_000
   -- and of PLL1 none
-  pub fractional : steady mixed (started plan_mixed.plan) (by pll1) ≡ false
+  pub fractional : steady mixed (started (plan_in plan_mixed)) (by pll1) ≡ false
 
 pub pll2_alone : Pll2Alone
 unfolding by_rules
@@ -114,7 +114,7 @@ pub slower_a_is : TwoReadings a slower_a (apply_all (entries_of (planned slower_
 unfolding by_tree floored
 slower_a_is h =
     let t = h.reads sys 249_999_999 (record { report = refl; steady_path = refl }) in
-    let e : path_of (apply_all (entries_of (planned slower_a)) reset_bank) (fed_by Unset) sys ≡ along (through pll1 32_000_000 8 (whole 125) (2 ∷ [])) = refl in
+    let e : path_of (apply_all (entries_of (planned slower_a)) reset_bank) (fed_by None) sys ≡ along (through pll1 32_000_000 8 (whole 125) (2 ∷ [])) = refl in
     let f : along (through pll1 32_000_000 8 (whole 125) (2 ∷ [])) ≡ along t.path = sym e ∙ t.found in
     let same : through pll1 32_000_000 8 (whole 125) (2 ∷ []) ≡ t.path = cc in
     let z : ◌≡◌ {A = ℕ} 250_000_000 249_999_999 = ap floored same ∙ sym t.readings.floor in
@@ -122,12 +122,12 @@ slower_a_is h =
 
 -- a clock that is not covered, through another PLL than its path: MCO2SEL 4, CSI, for PLL2 P in Fractional strategy
 abbrev mco_fractional : Request
-mco_fractional = asking Unset Unset Unset Unset Mco1Source.Hsi Unset Mco2Source.Pll2P (Hz 6_000_000) Samples.none (pll Fractional (Hz 12_288_000) Unset)
+mco_fractional = asking None None None None Mco1Source.Hsi None Mco2Source.Pll2P (Some 6_000_000) Samples.none (pll Fractional (Some 12_288_000) None)
 
-abbrev plan_fractional : Planned
-plan_fractional = answer_to mco_fractional (state true)
+abbrev plan_fractional : Result Plan Refusal
+plan_fractional = chosen_plan mco_fractional (state true)
 
-pub another_way : TwoReadings mco_fractional plan_fractional.plan (set (apply_all (entries_of plan_fractional) reset_bank) 56 4) → ⊥
+pub another_way : TwoReadings mco_fractional (plan_in plan_fractional) (set (apply_all (entries_of plan_fractional) reset_bank) 56 4) → ⊥
 unfolding by_tree
 another_way h =
     let e : by pll2 ≡ no_pll = h.via mco2 (direct 4_000_000 (3 ∷ [])) refl in

@@ -1,5 +1,7 @@
 -- The claims of specs/Demands taken at their word, for every request, chip and answer: a premise more, or a part less, and one of these is
 -- refused. Nothing is shown here of the planner.
+use Rattle.std.specs.Result.{result_ok}
+use Rattle.std.specs.Prelude.{None, Result, Ok, Err, IsOk}
 use mathlib.Core.Path.{◌≡◌, refl}
 use mathlib.Core.Logic.{◌⊎◌, ◌↔◌}
 use mathlib.Core.Bool.{Bool, true, false}
@@ -10,18 +12,15 @@ use Rattle.types.specs.declared.Chip.{Chip}
 use Rattle.types.specs.declared.Hsidiv.{Hsidiv}
 use Rattle.types.specs.declared.ChipState.{ChipState}
 use Rattle.types.specs.declared.Scale.TheVariants.{Scale0}
-use Rattle.types.specs.declared.Pll.TheVariants.{Idle}
 use Rattle.types.specs.declared.Entry.{Entry}
 use Rattle.types.specs.declared.Shown.TheVariants.{Next, Finished}
 use Rattle.types.specs.declared.Refusal.{Refusal}
 use Rattle.types.specs.declared.Plan.{Plan}
-use Rattle.types.specs.declared.Answer.TheVariants.{Accepted, Refused}
-use Rattle.types.specs.declared.Planned.{Planned}
-use Rattle.rules.specs.Document01.Result.{ok}
 use Rattle.rules.specs.Document01.Refusals.{number_of}
 use Rattle.rules.specs.Document01.Request.{source_of, asked_of}
-use Rattle.rules.specs.Document01.Plan.{blank_plan, Asked, request_of}
-use Rattle.rules.specs.Document01.Entries.{entries_of, pll_in}
+use Rattle.types.specs.declared.Asked.{Asked}
+use Rattle.rules.specs.Document01.Plan.{request_of}
+use Rattle.rules.specs.Document01.Entries.{entries_of, plan_entries, pll_in}
 use Rattle.rules.specs.Document01.Bank.{apply_all, reset_bank}
 use Rattle.claims.specs.Rust.Run.{Outcome, panics, ends}
 use Rattle.claims.specs.Rust.CoreClocks.{CoreClocks}
@@ -39,41 +38,41 @@ use Rattle.claims.specs.Demands.Calls.{Answered, Kept, AsFreeze, IsLegal, ReadTw
 use Rattle.rules.specs.Document01.Chip.{odd_at}
 
 -- ---- the calls
-module _ (bytes : List ℕ) (chip : Chip) (x : Planned) (a : Asked) (e : request_of bytes chip ≡ ok a) where
+module _ (bytes : List ℕ) (chip : Chip) (x : Result Plan Refusal) (a : Asked) (e : request_of bytes chip ≡ Ok a) where
   pub as_freeze : AsFreeze bytes chip x → Agreement a.request a.chip x (frozen a.request a.chip)
   as_freeze h = h a e
 
-  pub is_legal : IsLegal bytes chip x → x.answer ≡ Accepted → LegalPlan a.request a.chip x.plan
-  is_legal h = h a e
+  pub is_legal : IsLegal bytes chip x → (p : Plan) → x ≡ Ok p → LegalPlan a.request a.chip p
+  is_legal h p = h a p e
 
-  pub read_twice : ReadTwice bytes chip x → x.answer ≡ Accepted → TwoReadings a.request x.plan (apply_all (entries_of x) reset_bank)
+  pub read_twice : ReadTwice bytes chip x → (p : Plan) → x ≡ Ok p → TwoReadings a.request p (apply_all (entries_of x) reset_bank)
   read_twice h = h a e
 
-  pub bank_read_twice : (b b₁ : List ℕ) → BankReadTwice bytes chip x b b₁ → x.answer ≡ Accepted → b ≡ reset_bank → TwoReadings a.request x.plan b₁
+  pub bank_read_twice : (b b₁ : List ℕ) → BankReadTwice bytes chip x b b₁ → (p : Plan) → x ≡ Ok p → b ≡ reset_bank → TwoReadings a.request p b₁
   bank_read_twice b b₁ h = h a e
 
-module _ (x : Planned) (n : Refusal) (e : x.answer ≡ Refused n) where
+module _ (x : Result Plan Refusal) (n : Refusal) (e : x ≡ Err n) where
   pub listed : (ns : List ℕ) → Answered ns x → among ns (number_of n) ≡ true
   listed ns h = h.refusal n e
 
-  pub blank : (ns : List ℕ) → Answered ns x → x.plan ≡ blank_plan
+  pub blank : (ns : List ℕ) → Answered ns x → result_ok x ≡ None
   blank ns h = h.blank n e
 
   pub kept : (b b₁ : List ℕ) → Kept x b b₁ → b₁ ≡ b
   kept b b₁ h = h n e
 
 -- ---- demand 2
-module _ (q : Request) (c : ChipState) (x : Planned) where
-  pub plan_exactly : (o : Outcome CoreClocks) → Agreement q c x o → x.answer ≡ Accepted ↔ EndsAllowed c o
+module _ (q : Request) (c : ChipState) (x : Result Plan Refusal) where
+  pub plan_exactly : (o : Outcome CoreClocks) → Agreement q c x o → IsOk x ↔ EndsAllowed c o
   plan_exactly o h = h.exactly
 
-  pub plan_ends : (o : Outcome CoreClocks) → Agreement q c x o → x.answer ≡ Accepted → o ≡ ends (entries_of x) (reported x.plan)
+  pub plan_ends : (o : Outcome CoreClocks) → Agreement q c x o → (p : Plan) → x ≡ Ok p → o ≡ ends (plan_entries p) (reported p)
   plan_ends o h = h.planned
 
-  pub panic_refused : Agreement q c x panics → (n : Refusal) × (x.answer ≡ Refused n)
+  pub panic_refused : Agreement q c x panics → (n : Refusal) × (x ≡ Err n)
   panic_refused h = h.panicked refl
 
-module _ (q : Request) (c : ChipState) (x : Planned) (n : Refusal) (e : x.answer ≡ Refused n) where
+module _ (q : Request) (c : ChipState) (x : Result Plan Refusal) (n : Refusal) (e : x ≡ Err n) where
   pub refused : (o : Outcome CoreClocks) → Agreement q c x o → (number_of n ≡ 14 → ⊥) → (number_of n ≡ 15 → ⊥) → o ≡ panics
   refused o h = h.refused n e
 
@@ -97,7 +96,7 @@ module _ (q : Request) (c : ChipState) (p : Plan) (h : LegalPlan q c p) where
   pub third_pll : c.three ≡ true → LegalPll (odd_at c 2) (source_of q) (asked_of q 2) (pll_in p 2)
   third_pll e = rw e at h.pll3
 
-  pub no_third_pll : c.three ≡ false → pll_in p 2 ≡ Idle
+  pub no_third_pll : c.three ≡ false → pll_in p 2 ≡ None
   no_third_pll e = rw e at h.pll3
 
   pub wait_states : p.buses.ahb.clock ≤ highest c.scale * 1_000_000 → asks (rows c.scale) p.buses.ahb.clock ≡ waits p.waits.latency p.waits.delay

@@ -1,16 +1,14 @@
 -- Demand 2: what it means that the rules and Rcc::freeze agree. It is stated of every typed request: those that the Rust's setters can
 -- build, and those that they cannot (an MCO source other than the default without hertz, MCO1 from LSE), as if a Config could hold them.
-use Rattle.std.specs.Prelude.{◌≡◌, ◌⊎◌, ◌↔◌, Bool, true, false, cond, List, ◌∷◌, ◌++◌, ℕ, ◌-◌, ◌%◌, ◌≤◌, ◌<◌}
+use Rattle.std.specs.Prelude.{◌≡◌, ◌⊎◌, ◌↔◌, Bool, true, false, cond, List, ◌∷◌, ◌++◌, ℕ, ◌-◌, ◌%◌, ◌≤◌, ◌<◌, Result, is_some, IsOk, Ok, Err}
+use Rattle.types.specs.declared.Plan.{Plan}
 use Rattle.types.specs.declared.PllRequest.{PllRequest}
 use Rattle.types.specs.declared.Request.{Request}
 use Rattle.types.specs.declared.ChipState.{ChipState}
 use Rattle.types.specs.declared.Entry.{Entry}
 use Rattle.types.specs.declared.Entry.TheVariants.{Set}
 use Rattle.types.specs.declared.Refusal.{Refusal}
-use Rattle.types.specs.declared.Answer.TheVariants.{Accepted, Refused}
-use Rattle.types.specs.declared.Planned.{Planned}
 use Rattle.rules.specs.Document01.Chip.{odd_at}
-use Rattle.rules.specs.Document01.Hertz.{is_set}
 use Rattle.rules.specs.Document01.Refusals.{number_of}
 use Rattle.rules.specs.Document01.Request.{asked_of}
 use Rattle.rules.specs.Document01.OnePll.{target_for, divider_p}
@@ -46,7 +44,7 @@ divider_for odd a = divider_p (target_for odd a) a.p
 
 -- what 14 and 15 say of a PLL: P is requested of it, odd dividers are forbidden there, and the divider is one that the number refuses
 pub record Forbidden (odd : Bool) (a : PllRequest) (n : Refusal) : Type 0 where
-  pub asked : is_set a.p ≡ true
+  pub asked : is_some a.p ≡ true
   pub even : odd ≡ false
   pub which : Refused14 n (divider_for odd a) ⊎ Refused15 n (divider_for odd a)
 
@@ -79,21 +77,21 @@ pub record EndsAllowed (c : ChipState) (o : Outcome CoreClocks) : Type 0 where
   pub allowed : AllowsEachP c entries
 
 -- ---- an answer of the rules to a request, and how the Rust's setters and freeze come out
--- where f says what comes out of freeze for an answer that is a plan
-pub record AgreementAs (f : Planned → Freezes) (q : Request) (c : ChipState) (x : Planned) (o : Outcome CoreClocks) : Type 0 where
+-- where f says what comes out of freeze for a plan
+pub record AgreementAs (f : Plan → Freezes) (q : Request) (c : ChipState) (x : Result Plan Refusal) (o : Outcome CoreClocks) : Type 0 where
   -- a plan exactly where freeze ends and the manual allows what it has written to every P
-  pub exactly : x.answer ≡ Accepted ↔ EndsAllowed c o
+  pub exactly : IsOk x ↔ EndsAllowed c o
   -- a plan: freeze ends with exactly these entries, in order, and these clocks
-  pub planned : x.answer ≡ Accepted → o ≡ ends (f x).entries (f x).clocks
+  pub planned : (p : Plan) → x ≡ Ok p → o ≡ ends (f p).entries (f p).clocks
   -- a panic: the request is refused
-  pub panicked : o ≡ panics → (n : Refusal) × (x.answer ≡ Refused n)
+  pub panicked : o ≡ panics → (n : Refusal) × (x ≡ Err n)
   -- a refusal other than 14 and 15: the setters or freeze panic
-  pub refused : (n : Refusal) → x.answer ≡ Refused n → (number_of n ≡ 14 → ⊥) → (number_of n ≡ 15 → ⊥) → o ≡ panics
+  pub refused : (n : Refusal) → x ≡ Err n → (number_of n ≡ 14 → ⊥) → (number_of n ≡ 15 → ⊥) → o ≡ panics
   -- 14 and 15, whether freeze panics or ends: one of the chip's PLLs has a divider that the number refuses
-  pub caused : (n : Refusal) → x.answer ≡ Refused n → (number_of n ≡ 14) ⊎ (number_of n ≡ 15) → Cause q c n
+  pub caused : (n : Refusal) → x ≡ Err n → (number_of n ≡ 14) ⊎ (number_of n ≡ 15) → Cause q c n
   -- a refusal, and freeze ends all the same: it is 14 or 15, and freeze has written that divider, which the manual forbids
-  pub departed : (n : Refusal) (es : List Entry) (k : CoreClocks) → x.answer ≡ Refused n → o ≡ ends es k → Departure q c n es
+  pub departed : (n : Refusal) (es : List Entry) (k : CoreClocks) → x ≡ Err n → o ≡ ends es k → Departure q c n es
 
 -- nothing departs but 14 and 15: freeze ends with exactly the plan's entries, in order, and its clocks
-abbrev pub Agreement : Request → ChipState → Planned → Outcome CoreClocks → Type 0
+abbrev pub Agreement : Request → ChipState → Result Plan Refusal → Outcome CoreClocks → Type 0
 Agreement = AgreementAs as_planned

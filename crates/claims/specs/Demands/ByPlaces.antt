@@ -1,8 +1,6 @@
 -- The chip's numbers and the bytes of a request, read by places (document 01, One call, from the top: 90 bytes, or 106 with a PLL3 part), and not
 -- part by part as specs/Document01/Bytes reads them.
-use Rattle.std.specs.Prelude.{ℕ, ◌+◌, ◌*◌, List, [], ◌∷◌, Bool, not, cond, ◌&&◌, ◌||◌, leb, eqb, get_or}
-use Rattle.types.specs.declared.Hertz.{Hertz}
-use Rattle.types.specs.declared.Hertz.TheVariants.{Unset, Hz}
+use Rattle.std.specs.Prelude.{ℕ, ◌+◌, ◌*◌, List, [], ◌∷◌, Bool, not, cond, ◌&&◌, ◌||◌, leb, eqb, get_or, Option, Some, None}
 use Rattle.types.specs.declared.Strategy.TheVariants.{Integer, Fractional}
 use Rattle.types.specs.declared.Mco1Source.{Mco1Source}
 use Rattle.types.specs.declared.Mco2Source.{Mco2Source}
@@ -32,8 +30,8 @@ abbrev pub u32le_at : List ℕ → ℕ → ℕ
 u32le_at b k = at b k + 256 * at b (k + 1) + 65_536 * at b (k + 2) + 16_777_216 * at b (k + 3)
 
 -- each hertz is a byte 0 or 1 (unset, set) and 4 bytes
-abbrev pub hertz_at : List ℕ → ℕ → Hertz
-hertz_at b k = cond (eqb (at b k) 0) Unset (Hz (u32le_at b (k + 1)))
+abbrev pub hertz_at : List ℕ → ℕ → Option ℕ
+hertz_at b k = cond (eqb (at b k) 0) None (Some (u32le_at b (k + 1)))
 
 -- a byte that is none of n codes from 0; a set byte that is neither 0 nor 1, or an unset hertz not 0
 abbrev pub bad_code : (n : ℕ) → List ℕ → ℕ → Bool

@@ -1,24 +1,21 @@
 -- Where a plan and Rcc::freeze could part: what freeze does of its own with a plan's numbers, from rcc.rs, stated apart from document 01's
 -- definitions. Today both are the same for every plan (`freezes_as_planned`, proofs/Agreement/Freezes): only 14 and 15 depart.
-use Rattle.std.specs.Prelude.{List, [], ◌∷◌, ◌++◌, ℕ, ◌/◌}
-use Rattle.types.specs.declared.Hertz.{Hertz}
-use Rattle.types.specs.declared.Hertz.TheVariants.{Unset, Hz}
+use Rattle.std.specs.Prelude.{List, [], ◌∷◌, ◌++◌, ℕ, ◌/◌, Option, Some, None, unwrap_or}
+use Rattle.types.specs.declared.PllSettings.{PllSettings}
 use Rattle.types.specs.declared.Entry.{Entry}
 use Rattle.types.specs.declared.Entry.TheVariants.{Set, Wait}
 use Rattle.types.specs.declared.Bus.{Bus}
 use Rattle.types.specs.declared.Buses.{Buses}
-use Rattle.types.specs.declared.PllPlan.{PllPlan}
 use Rattle.types.specs.declared.Plan.{Plan}
-use Rattle.types.specs.declared.Planned.{Planned}
 use Rattle.types.specs.declared.Request.{Request}
 use Rattle.types.specs.declared.ChipState.{ChipState}
-use Rattle.rules.specs.Document01.Hertz.{ratio_of, hertz_or}
+use Rattle.rules.specs.Document01.Hertz.{ratio_of}
 use Rattle.rules.specs.Document01.OnePll.{pll_from, p_clock}
 use Rattle.rules.specs.Document01.Buses.{RatioRow, ◌gives◌, divisor_by}
 use Rattle.rules.specs.Document01.Plan.{plan_with}
 use Rattle.rules.specs.Document01.Fields
 use Rattle.rules.specs.Document01.Fields.{of_pll}
-use Rattle.rules.specs.Document01.Entries.{list_with, entries_of}
+use Rattle.rules.specs.Document01.Entries.{list_with, plan_entries}
 use Rattle.claims.specs.Rust.CoreClocks.{CoreClocks}
 use Rattle.claims.specs.Demands.Report.{reported}
 
@@ -45,8 +42,8 @@ abbrev pub freeze_ppre : (ratio : ℕ) → ℕ
 freeze_ppre = divisor_by freeze_apb_rows 16
 
 -- a bus by its rows; unset means the clock before it
-abbrev pub freeze_bus : (divisor_of : ℕ → ℕ) → (clock : ℕ) → Hertz → Bus
-freeze_bus divisor_of clock h = record { pre = divisor_of (ratio_of clock (hertz_or h clock)); clock = clock / divisor_of (ratio_of clock (hertz_or h clock)) }
+abbrev pub freeze_bus : (divisor_of : ℕ → ℕ) → (clock : ℕ) → Option ℕ → Bus
+freeze_bus divisor_of clock h = record { pre = divisor_of (ratio_of clock (unwrap_or h clock)); clock = clock / divisor_of (ratio_of clock (unwrap_or h clock)) }
 
 -- rcc_hclk, then each rcc_pclk from it
 abbrev pub freeze_buses : Request → (system : ℕ) → Buses
@@ -59,12 +56,12 @@ freeze_buses q system = record {
 
 -- ---- freeze's own starts
 -- if pllX_p_ck.is_some()
-abbrev pub started_by_p : (k : ℕ) → (p : Hertz) → List Entry
-started_by_p k Unset = []
-started_by_p k (Hz h) = Set (of_pll k Fields.ON) 1 ∷ Wait (of_pll k Fields.RDY) 1 ∷ []
+abbrev pub started_by_p : (k : ℕ) → (p : Option ℕ) → List Entry
+started_by_p k None = []
+started_by_p k (Some h) = Set (of_pll k Fields.ON) 1 ∷ Wait (of_pll k Fields.RDY) 1 ∷ []
 
 -- PLL1, PLL2, PLL3
-abbrev pub freeze_starts : List PllPlan → List Entry
+abbrev pub freeze_starts : List (Option PllSettings) → List Entry
 freeze_starts l = started_by_p 0 (p_clock (pll_from l 0)) ++ (started_by_p 1 (p_clock (pll_from l 1)) ++ started_by_p 2 (p_clock (pll_from l 2)))
 
 -- ---- both
@@ -72,10 +69,10 @@ freeze_starts l = started_by_p 0 (p_clock (pll_from l 0)) ++ (started_by_p 1 (p_
 abbrev pub freeze_plan : Request → ChipState → Plan → Plan
 freeze_plan q c p = plan_with q c p.plls (freeze_buses q p.clocks.sys) p.mcos
 
--- what freeze makes of it
-abbrev pub freezes_of : Request → ChipState → Planned → Freezes
-freezes_of q c x = record { entries = list_with freeze_starts (freeze_plan q c x.plan); clocks = reported (freeze_plan q c x.plan) }
+-- what freeze makes of a plan
+abbrev pub freezes_of : Request → ChipState → Plan → Freezes
+freezes_of q c p = record { entries = list_with freeze_starts (freeze_plan q c p); clocks = reported (freeze_plan q c p) }
 
--- an answer's own list and clocks: as long as nothing departs
-abbrev pub as_planned : Planned → Freezes
-as_planned x = record { entries = entries_of x; clocks = reported x.plan }
+-- a plan's own list and clocks: as long as nothing departs
+abbrev pub as_planned : Plan → Freezes
+as_planned p = record { entries = plan_entries p; clocks = reported p }

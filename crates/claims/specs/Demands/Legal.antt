@@ -1,19 +1,11 @@
 -- Demand 2, the manuals and IEEE 754: what holds of every PLL that a plan runs, and of its wait states. The spans, fields and rows are the
 -- manual's (specs/Manual), the f32 steps those of crates/ieee754 over whole numbers.
-use Rattle.std.specs.Prelude.{◌≡◌, Bool, true, false, ℕ, ◌+◌, ◌-◌, ◌*◌, ◌/◌, ◌≤◌, ◌<◌}
-use Rattle.types.specs.declared.Hertz.{Hertz}
-use Rattle.types.specs.declared.Hertz.TheVariants.{Unset, Hz}
+use Rattle.std.specs.Prelude.{◌≡◌, Bool, true, false, ℕ, ◌+◌, ◌-◌, ◌*◌, ◌/◌, ◌≤◌, ◌<◌, Option, Some, None}
 use Rattle.types.specs.declared.Strategy.{Strategy}
 use Rattle.types.specs.declared.Strategy.TheVariants.{Integer, Fractional}
-use Rattle.types.specs.declared.Fracn.TheVariants.{Value}
 use Rattle.types.specs.declared.PllOutput.{PllOutput}
-use Rattle.types.specs.declared.PllOutput.TheVariants.{Off, On}
-use Rattle.types.specs.declared.Fraction.{Fraction}
-use Rattle.types.specs.declared.Fraction.TheVariants.{Whole, Part}
 use Rattle.types.specs.declared.PllRequest.{PllRequest}
 use Rattle.types.specs.declared.PllSettings.{PllSettings}
-use Rattle.types.specs.declared.Pll.{Pll}
-use Rattle.types.specs.declared.Pll.TheVariants.{Idle, Runs}
 use Rattle.types.specs.declared.Request.{Request}
 use Rattle.types.specs.declared.ChipState.{ChipState}
 use Rattle.types.specs.declared.Plan.{Plan}
@@ -32,16 +24,16 @@ pub record LegalDivider (vco d h : ℕ) : Type 0 where
   pub hertz : h ≡ vco / d
 
 -- an output: on exactly where it is requested
-abbrev pub LegalOutput : (vco : ℕ) → (requested : Hertz) → PllOutput → Type 0
-LegalOutput vco Unset Off = Unit {0}
-LegalOutput vco Unset (On d h) = ⊥
-LegalOutput vco (Hz w) Off = ⊥
-LegalOutput vco (Hz w) (On d h) = LegalDivider vco d h
+abbrev pub LegalOutput : (vco : ℕ) → (requested : Option ℕ) → Option PllOutput → Type 0
+LegalOutput vco None None = Unit {0}
+LegalOutput vco None (Some o) = ⊥
+LegalOutput vco (Some w) None = ⊥
+LegalOutput vco (Some w) (Some o) = LegalDivider vco o.divider o.clock
 
 -- P's field, by the permission for odd dividers
-abbrev pub LegalP : (odd : Bool) → PllOutput → Type 0
-LegalP odd Off = Unit {0}
-LegalP odd (On d h) = allows_p odd (d - 1) ≡ true
+abbrev pub LegalP : (odd : Bool) → Option PllOutput → Type 0
+LegalP odd None = Unit {0}
+LegalP odd (Some o) = allows_p odd (o.divider - 1) ≡ true
 
 -- Integer: VCO = reference × N. It is not above VCOSEL's span, and above its lower end less one reference step: the Rust tests the target
 -- and not the VCO (docs/DIFFERENCES.md). The same of source / M × N, the manual's VCO, by cross products: above the lower end less one step of
@@ -54,9 +46,9 @@ pub record IntegerVco (source : ℕ) (s : PllSettings) : Type 0 where
   pub exact_to : source * s.n < ((vco_span s.vcosel).high + s.n) * s.m
 
 -- an output's divider, where it is on, else another
-abbrev pub divider_or : PllOutput → ℕ → ℕ
-divider_or Off other = other
-divider_or (On d h) other = d
+abbrev pub divider_or : Option PllOutput → ℕ → ℕ
+divider_or None other = other
+divider_or (Some o) other = o.divider
 
 -- the divider of the first of P, Q, R that is on
 abbrev pub first_divider : PllSettings → ℕ
@@ -67,17 +59,17 @@ first_divider s = divider_or s.p (divider_or s.q (divider_or s.r 0))
 -- N + FRACN / 8192 and 98 hertz above the upper end. The reference is cut to whole hertz, and the f32 steps round
 pub record FractionalVco (source first : ℕ) (s : PllSettings) (f : ℕ) : Type 0 where
   pub field : FieldFracn f
-  pub fracn : fracn_whole s.reference s.n (first_divider s) first ≡ Value f
+  pub fracn : fracn_whole s.reference s.n (first_divider s) first ≡ Some f
   pub vco : s.vco ≡ vco_whole s.reference s.n f
   pub exact_from : 8192 * ((vco_span s.vcosel).low * s.m) < source * (8192 * s.n + f) + 8192 * source
   pub exact_to : source * (8192 * s.n + f) < (8192 * ((vco_span s.vcosel).high + 98) + (8192 * s.n + f)) * s.m
 
 -- by the strategy that is requested
-abbrev pub LegalVco : Strategy → (source first : ℕ) → PllSettings → Fraction → Type 0
-LegalVco Integer source first s Whole = IntegerVco source s
-LegalVco Integer source first s (Part f) = ⊥
-LegalVco Fractional source first s Whole = ⊥
-LegalVco Fractional source first s (Part f) = FractionalVco source first s f
+abbrev pub LegalVco : Strategy → (source first : ℕ) → PllSettings → Option ℕ → Type 0
+LegalVco Integer source first s None = IntegerVco source s
+LegalVco Integer source first s (Some f) = ⊥
+LegalVco Fractional source first s None = ⊥
+LegalVco Fractional source first s (Some f) = FractionalVco source first s f
 
 -- a running PLL of a source of so many hertz, asked for a
 pub record Legal (odd : Bool) (source : ℕ) (a : PllRequest) (s : PllSettings) : Type 0 where
@@ -101,14 +93,14 @@ pub record Legal (odd : Bool) (source : ℕ) (a : PllRequest) (s : PllSettings) 
   pub odd_p : LegalP odd s.p
 
 -- a PLL that runs; one is idle only where nothing is requested of it
-abbrev pub LegalPll : (odd : Bool) → (source : ℕ) → PllRequest → Pll → Type 0
-LegalPll odd source a Idle = wanted a ≡ false
-LegalPll odd source a (Runs s) = Legal odd source a s
+abbrev pub LegalPll : (odd : Bool) → (source : ℕ) → PllRequest → Option PllSettings → Type 0
+LegalPll odd source a None = wanted a ≡ false
+LegalPll odd source a (Some s) = Legal odd source a s
 
 -- the third, which a chip with two does not have
-abbrev pub LegalThird : (three odd : Bool) → (source : ℕ) → PllRequest → Pll → Type 0
+abbrev pub LegalThird : (three odd : Bool) → (source : ℕ) → PllRequest → Option PllSettings → Type 0
 LegalThird true odd source a x = LegalPll odd source a x
-LegalThird false odd source a x = x ≡ Idle
+LegalThird false odd source a x = x ≡ None
 
 -- all PLLs of a plan, and its wait states up to the highest AHB clock of the manual's rows
 pub record LegalPlan (q : Request) (c : ChipState) (p : Plan) : Type 0 where

@@ -1,13 +1,9 @@
 -- What the conditions of specs/Demands/Refused speak of: each quantity has a value whatever the request. Where one is missing, as M where none is
 -- admissible, 0 stands for it, and an earlier row of the list holds.
-use Rattle.std.specs.Prelude.{ℕ, zero, suc, ◌/◌, ◌*◌, List, [], ◌∷◌, Bool, true, false, not, cond, ◌||◌, ltb, eqb, Float}
+use Rattle.std.specs.Prelude.{ℕ, zero, suc, ◌/◌, ◌*◌, List, [], ◌∷◌, Bool, true, false, not, cond, ◌||◌, ltb, eqb, Float, Option, Some, None, unwrap_or, is_some}
 use Rattle.std.specs.Float.Ieee.{to_unsigned}
-use Rattle.types.specs.declared.Hertz.{Hertz}
-use Rattle.types.specs.declared.Hertz.TheVariants.{Unset, Hz}
 use Rattle.types.specs.declared.Strategy.{Strategy}
 use Rattle.types.specs.declared.Strategy.TheVariants.{Integer, Fractional}
-use Rattle.types.specs.declared.FoundM.{FoundM}
-use Rattle.types.specs.declared.FoundM.TheVariants.{Nothing, M}
 use Rattle.types.specs.declared.Mco1Source.{Mco1Source}
 use Rattle.types.specs.declared.Mco2Source.{Mco2Source}
 use Rattle.types.specs.declared.PllRequest.{PllRequest}
@@ -15,31 +11,31 @@ use Rattle.types.specs.declared.Request.{Request}
 use Rattle.types.specs.declared.ChipState.{ChipState}
 use Rattle.ieee754.specs.Steps.{float, fracn_float, vco_of}
 use Rattle.rules.specs.Document01.Chip.{odd_at}
-use Rattle.rules.specs.Document01.Hertz.{is_set, hertz_or, ratio_of}
+use Rattle.rules.specs.Document01.Hertz.{ratio_of}
 use Rattle.rules.specs.Document01.Request.{source_of, needs_pll1, asked_of}
 use Rattle.rules.specs.Document01.ChoiceOfM.{chosen_m}
 use Rattle.rules.specs.Document01.OnePll.{counted_outputs, least, largest, Range, range_for, target_for, first_of}
 
 -- ---- requested hertz
 -- a test holds of one of some hertz
-abbrev pub any : (Hertz → Bool) → List Hertz → Bool
+abbrev pub any : (Option ℕ → Bool) → List (Option ℕ) → Bool
 any t [] = false
 any t (h ∷ hs) = t h || any t hs
 
 -- requested, and 0
-abbrev pub is_zero : Hertz → Bool
-is_zero Unset = false
-is_zero (Hz h) = eqb h 0
+abbrev pub is_zero : Option ℕ → Bool
+is_zero None = false
+is_zero (Some h) = eqb h 0
 
 -- requested, and above a limit
-abbrev pub above : (limit : ℕ) → Hertz → Bool
-above limit Unset = false
-above limit (Hz h) = ltb limit h
+abbrev pub above : (limit : ℕ) → Option ℕ → Bool
+above limit None = false
+above limit (Some h) = ltb limit h
 
 -- requested, and unlike another
-abbrev pub unlike : ℕ → Hertz → Bool
-unlike s Unset = false
-unlike s (Hz h) = not (eqb h s)
+abbrev pub unlike : ℕ → Option ℕ → Bool
+unlike s None = false
+unlike s (Some h) = not (eqb h s)
 
 -- ---- one PLL
 -- some number of 1 to n passes a test
@@ -48,9 +44,9 @@ any_to t zero = false
 any_to t (suc n) = any_to t n || t (suc n)
 
 -- M, 0 where there is none
-abbrev pub number_m : FoundM → ℕ
-number_m Nothing = 0
-number_m (M m) = m
+abbrev pub number_m : Option ℕ → ℕ
+number_m None = 0
+number_m (Some m) = m
 
 -- the strategy is Fractional
 abbrev pub is_fractional : Strategy → Bool
@@ -93,16 +89,16 @@ module _ (odd : Bool) (source : ℕ) (a : PllRequest) where
 
   -- P's divider = target / output
   abbrev pub divider_p : ℕ
-  divider_p = target / hertz_or a.p 0
+  divider_p = target / unwrap_or a.p 0
 
   -- VCO is ref × N in Integer, ref × (N + FRACN / 8192) in f32 in Fractional
   abbrev pub vco : ℕ
   vco = cond (is_fractional a.strategy) (vco_of ref n (to_unsigned 16 fracn)) (ref * n)
 
   -- an output's hertz: VCO / divider
-  abbrev pub clock_at : Hertz → ℕ
-  clock_at Unset = 0
-  clock_at (Hz h) = vco / (target / h)
+  abbrev pub clock_at : Option ℕ → ℕ
+  clock_at None = 0
+  clock_at (Some h) = vco / (target / h)
 
 -- those that the rows of one PLL name
 pub record OfPll : Type 0 where
@@ -147,14 +143,14 @@ abbrev pub running : ℕ → Input
 running h = record { lse = false; unplanned = false; clock = h }
 
 -- a PLL output, which is planned where it is requested
-abbrev pub output : (requested : Hertz) → ℕ → Input
-output requested h = record { lse = false; unplanned = not (is_set requested); clock = h }
+abbrev pub output : (requested : Option ℕ) → ℕ → Input
+output requested h = record { lse = false; unplanned = not (is_some requested); clock = h }
 
 -- MCO1's sources
 abbrev pub input1 : Request → ChipState → Mco1Source → Input
 input1 q c Mco1Source.Hsi = running 32_000_000
 input1 q c Mco1Source.Lse = record { lse = true; unplanned = false; clock = 0 }
-input1 q c Mco1Source.Hse = running (hertz_or q.hse 0)
+input1 q c Mco1Source.Hse = running (unwrap_or q.hse 0)
 input1 q c Mco1Source.Pll1Q = output (asked_of q 0).q (clock_at (odd_at c 0) (source_of q) (asked_of q 0) (asked_of q 0).q)
 input1 q c Mco1Source.Hsi48 = running 48_000_000
 
@@ -162,12 +158,12 @@ input1 q c Mco1Source.Hsi48 = running 48_000_000
 abbrev pub input2 : Request → ChipState → Mco2Source → Input
 input2 q c Mco2Source.Sysclk = running (system q c)
 input2 q c Mco2Source.Pll2P = output (asked_of q 1).p (clock_at (odd_at c 1) (source_of q) (asked_of q 1) (asked_of q 1).p)
-input2 q c Mco2Source.Hse = running (hertz_or q.hse 0)
+input2 q c Mco2Source.Hse = running (unwrap_or q.hse 0)
 input2 q c Mco2Source.Pll1P = output (asked_of q 0).p (pll1_p q c)
 input2 q c Mco2Source.Csi = running 4_000_000
 input2 q c Mco2Source.Lsi = running 32_000
 
 -- requested, and its ratio above 15
-abbrev pub ratio_above15 : (clock : ℕ) → Hertz → Bool
-ratio_above15 clock Unset = false
-ratio_above15 clock (Hz h) = ltb 15 (ratio_of clock h)
+abbrev pub ratio_above15 : (clock : ℕ) → Option ℕ → Bool
+ratio_above15 clock None = false
+ratio_above15 clock (Some h) = ltb 15 (ratio_of clock h)

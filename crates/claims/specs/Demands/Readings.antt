@@ -1,15 +1,12 @@
 -- Demand 3, whole: the hertz that a plan reports, and the exact fractions that the clock tree gives from the bank its list leaves.
-use Rattle.std.specs.Prelude.{◌≡◌, Bool, true, false, cond, ◌&&◌, List, ℕ, eqb}
-use Rattle.types.specs.declared.Hertz.TheVariants.{Hz}
+use Rattle.std.specs.Prelude.{◌≡◌, Bool, true, false, cond, ◌&&◌, List, ℕ, eqb, Some, Result, is_some, Ok}
+use Rattle.types.specs.declared.Refusal.{Refusal}
 use Rattle.types.specs.declared.Strategy.{Strategy}
 use Rattle.types.specs.declared.Strategy.TheVariants.{Integer, Fractional}
 use Rattle.types.specs.declared.Mco1Source.{Mco1Source}
 use Rattle.types.specs.declared.Mco2Source.{Mco2Source}
 use Rattle.types.specs.declared.Request.{Request}
 use Rattle.types.specs.declared.Plan.{Plan}
-use Rattle.types.specs.declared.Answer.TheVariants.{Accepted}
-use Rattle.types.specs.declared.Planned.{Planned}
-use Rattle.rules.specs.Document01.Hertz.{is_set}
 use Rattle.rules.specs.Document01.Request.{pll_at}
 use Rattle.rules.specs.Document01.Entries.{entries_of}
 use Rattle.rules.specs.Document01.Bank.{apply_all, reset_bank}
@@ -60,7 +57,7 @@ via_of q p (output j o) = by j
 
 -- PLL j is started: it has P (document 01, Register entries)
 abbrev pub started : Plan → PllName → Bool
-started p j = is_set (hertz_of (reported p) (output j P))
+started p j = is_some (hertz_of (reported p) (output j P))
 
 -- Integer strategy
 abbrev pub is_integer : Strategy → Bool
@@ -74,7 +71,7 @@ steady q started (by j) = started j && is_integer (pll_at q (number j)).strategy
 
 -- clock k is reported, as r hertz, and its path has no PLL, or one that is started and in Integer strategy
 pub record Covered (q : Request) (p : Plan) (started : PllName → Bool) (k : Clock) (r : ℕ) : Type 0 where
-  pub report : hertz_of (reported p) k ≡ Hz r
+  pub report : hertz_of (reported p) k ≡ Some r
   pub steady_path : steady q started (via_of q p k) ≡ true
 
 -- ---- the claim
@@ -91,9 +88,9 @@ pub record TwoReadings (q : Request) (p : Plan) (b : List ℕ) : Type 0 where
   pub via : (k : Clock) (path : Path) → path_of b (fed_by q.hse) k ≡ along path → via_of q p k ≡ pll_on path
 
 -- demand 3 for the answer to a request: a plan's whole list is applied, in order, to a bank at reset values
-abbrev pub Reads : Request → Planned → Type 0
-Reads q x = x.answer ≡ Accepted → TwoReadings q x.plan (apply_all (entries_of x) reset_bank)
+abbrev pub Reads : Request → Result Plan Refusal → Type 0
+Reads q x = (p : Plan) → x ≡ Ok p → TwoReadings q p (apply_all (entries_of x) reset_bank)
 
 -- and for a bank call that found bank b and left bank b₁
-abbrev pub BankReads : Request → Planned → List ℕ → List ℕ → Type 0
-BankReads q x b b₁ = x.answer ≡ Accepted → b ≡ reset_bank → TwoReadings q x.plan b₁
+abbrev pub BankReads : Request → Result Plan Refusal → List ℕ → List ℕ → Type 0
+BankReads q x b b₁ = (p : Plan) → x ≡ Ok p → b ≡ reset_bank → TwoReadings q p b₁

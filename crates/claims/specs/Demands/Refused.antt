@@ -1,7 +1,7 @@
 -- Document 01, Who can cause which refusal, as a list to tick off: for each refusal, in the document's order, a row with its number and a condition
 -- of its own on the request and the chip. No row waits for another. The answer is the number of the first row that holds, and a plan where
 -- none does: clause order of the two calls of crates/rcc, by proofs/Refused.
-use Rattle.std.specs.Prelude.{ℕ, ◌+◌, ◌/◌, ◌%◌, List, [], ◌∷◌, ◌++◌, Bool, not, cond, ◌&&◌, ◌||◌, leb, ltb, eqb, length}
+use Rattle.std.specs.Prelude.{ℕ, ◌+◌, ◌/◌, ◌%◌, List, [], ◌∷◌, ◌++◌, Bool, not, cond, ◌&&◌, ◌||◌, leb, ltb, eqb, length, is_some}
 use Rattle.std.specs.Float.Ieee.{le}
 use Rattle.types.specs.declared.PllRequest.{PllRequest}
 use Rattle.types.specs.declared.Request.{Request}
@@ -9,7 +9,6 @@ use Rattle.types.specs.declared.Chip.{Chip}
 use Rattle.types.specs.declared.ChipState.{ChipState}
 use Rattle.ieee754.specs.Steps.{float}
 use Rattle.rules.specs.Document01.Chip.{divisor_of, odd_at, has_pll}
-use Rattle.rules.specs.Document01.Hertz.{is_set}
 use Rattle.rules.specs.Document01.Request.{from_hse1, from_hse2, pll1_asked, source_of, system_of, needs_pll1, asked_of}
 use Rattle.rules.specs.Document01.ChoiceOfM.{in_range}
 use Rattle.rules.specs.Document01.OnePll.{wanted}
@@ -57,7 +56,7 @@ byte_rows three b =
 abbrev pub request_rows : Request → List Row
 request_rows q =
     3 when any (above 250_000_000) (q.system ∷ q.ahb ∷ q.apb1 ∷ q.apb2 ∷ q.apb3 ∷ [])  -- above 250,000,000
-    ∷ 4 when ((from_hse1 q.mco1source || from_hse2 q.mco2source) && not (is_set q.hse))  -- MCO from HSE, none stated
+    ∷ 4 when ((from_hse1 q.mco1source || from_hse2 q.mco2source) && not (is_some q.hse))  -- MCO from HSE, none stated
     ∷ 5 when (needs_pll1 q && unlike (system_of q) (pll1_asked q).p)  -- PLL1 P unlike the system clock that needs it
     ∷ 6 when eqb (source_of q) 0  -- source 0 Hz
     ∷ []
@@ -79,8 +78,8 @@ module _ (odd : Bool) (source : ℕ) (a : PllRequest) where
       ∷ 11 when not (any_to (in_range source x.range.low x.range.high) 63)  -- no admissible M
       ∷ 12 when (ltb x.n 4 || ltb 512 x.n)  -- N outside 4–512
       ∷ 13 when (is_fractional a.strategy && not (le (float 0) x.fracn && le x.fracn (float 8191)))  -- FRACN before cutting outside 0–8191
-      ∷ 14 when (is_set a.p && ltb 128 x.divider_p)  -- P divider above 128
-      ∷ 15 when (is_set a.p && not odd && eqb (x.divider_p % 2) 1)  -- P divider odd where forbidden
+      ∷ 14 when (is_some a.p && ltb 128 x.divider_p)  -- P divider above 128
+      ∷ 15 when (is_some a.p && not odd && eqb (x.divider_p % 2) 1)  -- P divider odd where forbidden
       ∷ []
 
 -- PLL k, from 0, where the chip has it; one with no output requested is skipped

@@ -1,9 +1,7 @@
 -- A list to tick off: rows with a number and a test. The answer has the number of the first row that holds, and is a plan where none does.
-use Rattle.std.specs.Prelude.{ℕ, ◌≡◌, ◌↔◌, List, [], ◌∷◌, Bool, cond}
-use Rattle.std.proofs.Math.Option.{Option, none, some}
+use Rattle.types.specs.declared.Plan.{Plan}
+use Rattle.std.specs.Prelude.{ℕ, ◌≡◌, ◌↔◌, List, [], ◌∷◌, Bool, cond, Option, Some, None, Result, Err, IsOk}
 use Rattle.types.specs.declared.Refusal.{Refusal}
-use Rattle.types.specs.declared.Answer.{Answer}
-use Rattle.types.specs.declared.Answer.TheVariants.{Accepted, Refused}
 use Rattle.rules.specs.Document01.Refusals.{number_of}
 
 -- a refusal's number, and whether it fits
@@ -18,10 +16,10 @@ n when t = record { number = n; holds = t }
 
 -- the number of the first row that holds, or none
 abbrev pub first_that : List Row → Option ℕ
-first_that [] = none
-first_that (r ∷ rs) = cond r.holds (some r.number) (first_that rs)
+first_that [] = None
+first_that (r ∷ rs) = cond r.holds (Some r.number) (first_that rs)
 
 -- ---- the claim: a plan exactly where no row holds, and a refusal exactly where the first row that holds has its number
-pub record AsRows (rows : List Row) (x : Answer) : Type 0 where
-  pub plan : x ≡ Accepted ↔ first_that rows ≡ none
-  pub refusal : (n : Refusal) → x ≡ Refused n ↔ first_that rows ≡ some (number_of n)
+pub record AsRows (rows : List Row) (x : Result Plan Refusal) : Type 0 where
+  pub plan : IsOk x ↔ first_that rows ≡ None
+  pub refusal : (n : Refusal) → x ≡ Err n ↔ first_that rows ≡ Some (number_of n)

@@ -1,12 +1,11 @@
 -- core_clocks.rs, with its names: the clocks that freeze reports. An Option<Hertz> is a Hertz here.
-use Rattle.std.specs.Prelude.{ℕ}
-use Rattle.types.specs.declared.Hertz.{Hertz}
+use Rattle.std.specs.Prelude.{ℕ, Option}
 
 -- struct PllClocks
 pub record PllClocks : Type 0 where
-  pub p_ck : Hertz
-  pub q_ck : Hertz
-  pub r_ck : Hertz
+  pub p_ck : Option ℕ
+  pub q_ck : Option ℕ
+  pub r_ck : Option ℕ
 
 -- struct CoreClocks
 pub record CoreClocks : Type 0 where
@@ -17,16 +16,16 @@ pub record CoreClocks : Type 0 where
   pub ppre1 : ℕ
   pub ppre2 : ℕ
   pub ppre3 : ℕ
-  pub csi_ck : Hertz
-  pub hsi_ck : Hertz
-  pub hsi48_ck : Hertz
-  pub lsi_ck : Hertz
-  pub per_ck : Hertz
-  pub hse_ck : Hertz
-  pub lse_ck : Hertz
-  pub audio_ck : Hertz
-  pub mco1_ck : Hertz
-  pub mco2_ck : Hertz
+  pub csi_ck : Option ℕ
+  pub hsi_ck : Option ℕ
+  pub hsi48_ck : Option ℕ
+  pub lsi_ck : Option ℕ
+  pub per_ck : Option ℕ
+  pub hse_ck : Option ℕ
+  pub lse_ck : Option ℕ
+  pub audio_ck : Option ℕ
+  pub mco1_ck : Option ℕ
+  pub mco2_ck : Option ℕ
   pub pll1 : PllClocks
   pub pll2 : PllClocks
   pub pll3 : PllClocks

@@ -1,11 +1,10 @@
 -- pll.rs, from the top, with its names.
-use Rattle.std.specs.Prelude.{List, [], ◌∷◌, ◌++◌, Bool, true, false, cond, ◌&&◌, ℕ, zero, suc, ◌-◌, ◌/◌, min, max, leb, ltb, eqb, ℤ, Float}
+use Rattle.std.specs.Prelude.{List, [], ◌∷◌, ◌++◌, Bool, true, false, cond, ◌&&◌, ℕ, zero, suc, ◌-◌, ◌/◌, min, max, leb, ltb, eqb, ℤ, Float, Option, Some, None, is_some}
 use Rattle.std.specs.Int.Signed.{lt_z}
 use Rattle.std.specs.Float.{binary32}
 use Rattle.std.specs.Float.Ieee.{add, sub, mul, div, le, to_unsigned}
+use Rattle.std.specs.Option.{option_or}
 use Rattle.types.specs.declared.Entry.TheVariants.{Set}
-use Rattle.types.specs.declared.Hertz.{Hertz}
-use Rattle.types.specs.declared.Hertz.TheVariants.{Unset, Hz}
 use Rattle.types.specs.declared.Strategy.{Strategy}
 use Rattle.types.specs.declared.Strategy.TheVariants.{Integer, Fractional}
 use Rattle.ieee754.specs.Steps.{float}
@@ -13,7 +12,7 @@ use Rattle.rules.specs.Document01.Fields
 use Rattle.rules.specs.Document01.Fields.{of_pll}
 use Rattle.claims.specs.Rust.CoreClocks.{PllClocks}
 use Rattle.claims.specs.Rust.Run as Rust
-use Rattle.claims.specs.Rust.Run.{Run, ◌>>=◌, ◌>>◌, return, panic, assert, modify, is_some, or, div_ceil, as_u8, as_u16, as_i32, sub_i32, contains}
+use Rattle.claims.specs.Rust.Run.{Run, ◌>>=◌, ◌>>◌, return, panic, assert, modify, div_ceil, as_u8, as_u16, as_i32, sub_i32, contains}
 
 -- const PLL_N_MIN
 abbrev pub PLL-N-MIN : ℕ
@@ -34,9 +33,9 @@ PLL-M-MAX = 63
 -- struct PllConfig
 pub record PllConfig : Type 0 where
   pub strategy : Strategy
-  pub p_ck : Hertz
-  pub q_ck : Hertz
-  pub r_ck : Hertz
+  pub p_ck : Option ℕ
+  pub q_ck : Option ℕ
+  pub r_ck : Option ℕ
 
 -- struct VcoRange
 pub record VcoRange : Type 0 where
@@ -54,10 +53,10 @@ VCO-RANGE-MEDIUM = record { output_start = 150_000_000; output_end = 420_000_000
 abbrev pub VCO-RANGE-WIDE : VcoRange
 VCO-RANGE-WIDE = record { output_start = 128_000_000; output_end = 560_000_000; input_start = 2_000_000; input_end = 16_000_000; vcosel = 0 }
 
--- Option<PllOutput>
-pub data PllOutput : Type 0 where
-  None : PllOutput
-  Some : (ck div : ℕ) → PllOutput
+-- struct PllOutput
+pub record PllOutput : Type 0 where
+  pub ck : ℕ
+  pub div : ℕ
 
 -- struct PllSetup
 pub record PllSetup : Type 0 where
@@ -65,17 +64,17 @@ pub record PllSetup : Type 0 where
   pub vco_out_target : ℕ
   pub ref_ck : ℕ
   pub pll_m : ℕ
-  pub pll_p : PllOutput
-  pub pll_q : PllOutput
-  pub pll_r : PllOutput
+  pub pll_p : Option PllOutput
+  pub pll_q : Option PllOutput
+  pub pll_r : Option PllOutput
 
 -- ---- fn vco_output_divider_setup
 
 -- .filter(is_some).map(..): doubled where P cannot be odd
-abbrev pub mapped : Hertz → Bool → Run (List ℕ)
-mapped Unset odd = return []
-mapped (Hz ck) true = return (ck ∷ [])
-mapped (Hz ck) false = do
+abbrev pub mapped : Option ℕ → Bool → Run (List ℕ)
+mapped None odd = return []
+mapped (Some ck) true = return (ck ∷ [])
+mapped (Some ck) false = do
   doubled ← Rust.mul ck 2
   return (doubled ∷ [])
 
@@ -109,11 +108,11 @@ lowered vco_out_target quotient =
     cond (ltb PLL-OUT-DIV-MAX quotient) (div_ceil quotient PLL-OUT-DIV-MAX >>= λ f. Rust.div vco_out_target f) (return vco_out_target)
 
 -- pllcfg.p_ck.map(|ck| PllOutput { ck, div: vco_out_target / ck })
-abbrev pub output_div : (vco_out_target : ℕ) → Hertz → Run PllOutput
-output_div vco_out_target Unset = return None
-output_div vco_out_target (Hz ck) = do
+abbrev pub output_div : (vco_out_target : ℕ) → Option ℕ → Run (Option PllOutput)
+output_div vco_out_target None = return None
+output_div vco_out_target (Some ck) = do
   d ← Rust.div vco_out_target ck
-  return (Some ck d)
+  return (Some (record { ck = ck; div = d }))
 
 -- the key of .min_by_key: vco_out_target as i32 - (ref_x_ck * pll_x_n) as i32
 unfoldable pub key_of : (pllsrc vco_out_target pll-x-m : ℕ) → Run ℤ
@@ -205,16 +204,16 @@ vco_setup k pllsrc pllcfg odd-allowed = do
   return pll_setup
 
 -- ---- pll_divider_setup!, for one of p, q, r
-unfoldable pub pll_divider_setup : (field enable vco-ck : ℕ) → PllOutput → Run Hertz
+unfoldable pub pll_divider_setup : (field enable vco-ck : ℕ) → Option PllOutput → Run (Option ℕ)
 pll_divider_setup field enable vco-ck None = do
   modify (Set enable 0)
-  return Unset
-pll_divider_setup field enable vco-ck (Some ck d) = do
-  less ← Rust.sub d 1
+  return None
+pll_divider_setup field enable vco-ck (Some o) = do
+  less ← Rust.sub o.div 1
   modify (Set field (as_u8 less))
   modify (Set enable 1)
-  hz ← Rust.div vco-ck d
-  return (Hz hz)
+  hz ← Rust.div vco-ck o.div
+  return (Some hz)
 
 -- ---- fn calc_fracn and fn calc_vco_ck: every operation is rounded once (`lib.Ieee`)
 unfoldable pub calc_fracn : (ref-clk pll_n pll_p output : Float) → Run ℕ
@@ -229,23 +228,18 @@ calc_vco_ck ref_ck pll_n pll-fracn = to_unsigned 32 (mul binary32 (float ref_ck)
 
 -- ---- pll_setup!
 
--- pll_p.or(pll_q.or(pll_r))
-abbrev pub or_output : PllOutput → PllOutput → PllOutput
-or_output None o = o
-or_output (Some ck d) o = Some ck d
-
 -- match pll.strategy
-abbrev pub fractional_vco : (k : ℕ) → (ref_ck pll-x-n : ℕ) → PllOutput → Run ℕ
+abbrev pub fractional_vco : (k : ℕ) → (ref_ck pll-x-n : ℕ) → Option PllOutput → Run ℕ
 fractional_vco k ref_ck pll-x-n None = panic
-fractional_vco k ref_ck pll-x-n (Some ck d) = do
-  pll-x-fracn ← calc_fracn (float ref_ck) (float pll-x-n) (float d) (float ck)
+fractional_vco k ref_ck pll-x-n (Some o) = do
+  pll-x-fracn ← calc_fracn (float ref_ck) (float pll-x-n) (float o.div) (float o.ck)
   modify (Set (of_pll k Fields.FRACN) pll-x-fracn)
   modify (Set (of_pll k Fields.FRACEN) 0)
   modify (Set (of_pll k Fields.FRACEN) 1)
   return (calc_vco_ck ref_ck pll-x-n pll-x-fracn)
 
 -- PllConfigStrategy::Fractional, or ref_ck * pll_x_n
-unfoldable pub vco_ck_of : (k : ℕ) → Strategy → (ref_ck pll-x-n : ℕ) → PllOutput → Run ℕ
+unfoldable pub vco_ck_of : (k : ℕ) → Strategy → (ref_ck pll-x-n : ℕ) → Option PllOutput → Run ℕ
 vco_ck_of k Integer ref_ck pll-x-n pll-x = Rust.mul ref_ck pll-x-n
 vco_ck_of k Fractional ref_ck pll-x-n pll-x = fractional_vco k ref_ck pll-x-n pll-x
 
@@ -257,7 +251,7 @@ write_pll k strategy pll_setup = do
   assert (leb PLL-N-MIN pll-x-n)
   assert (leb pll-x-n PLL-N-MAX)
   modify (Set (of_pll k Fields.N) (as_u16 (pll-x-n - 1)))
-  vco-ck ← vco_ck_of k strategy pll_setup.ref_ck pll-x-n (or_output pll_setup.pll_p (or_output pll_setup.pll_q pll_setup.pll_r))
+  vco-ck ← vco_ck_of k strategy pll_setup.ref_ck pll-x-n (option_or pll_setup.pll_p (option_or pll_setup.pll_q pll_setup.pll_r))
   p-ck-hz ← pll_divider_setup (of_pll k Fields.P) (of_pll k Fields.PEN) vco-ck pll_setup.pll_p
   q-ck-hz ← pll_divider_setup (of_pll k Fields.Q) (of_pll k Fields.QEN) vco-ck pll_setup.pll_q
   r-ck-hz ← pll_divider_setup (of_pll k Fields.R) (of_pll k Fields.REN) vco-ck pll_setup.pll_r
@@ -267,6 +261,6 @@ write_pll k strategy pll_setup = do
 unfoldable pub pll_setup : (k : ℕ) → (odd-allowed : Bool) → (pllsrc : ℕ) → PllConfig → Run PllClocks
 pll_setup k odd-allowed pllsrc pll = do
   assert (ltb 0 pllsrc)
-  cond (is_some (or pll.p_ck (or pll.q_ck pll.r_ck)))
+  cond (is_some (option_or pll.p_ck (option_or pll.q_ck pll.r_ck)))
       (vco_setup k pllsrc pll odd-allowed >>= write_pll k pll.strategy)
-      (return (record { p_ck = Unset; q_ck = Unset; r_ck = Unset }))
+      (return (record { p_ck = None; q_ck = None; r_ck = None }))

@@ -1,8 +1,7 @@
 -- rcc.rs, from the setters to the frozen clocks, with its names.
-use Rattle.std.specs.Prelude.{[], Bool, true, false, not, cond, ◌&&◌, ℕ, ◌/◌, leb, ltb, eqb}
+use Rattle.std.specs.Prelude.{[], Bool, true, false, not, cond, ◌&&◌, ℕ, ◌/◌, leb, ltb, eqb, Option, Some, None, unwrap_or, is_some}
+use Rattle.std.specs.Option.{option_or}
 use Rattle.types.specs.declared.Entry.TheVariants.{Set, Set2, Set3, Set4, Wait, Wait2, Check}
-use Rattle.types.specs.declared.Hertz.{Hertz}
-use Rattle.types.specs.declared.Hertz.TheVariants.{Unset, Hz}
 use Rattle.types.specs.declared.Mco1Source.{Mco1Source}
 use Rattle.types.specs.declared.Mco2Source.{Mco2Source}
 use Rattle.types.specs.declared.PllRequest.{PllRequest}
@@ -17,7 +16,7 @@ use Rattle.rules.specs.Document01.Fields.{of_pll}
 use Rattle.rules.specs.Document01.Request.{pll_at}
 use Rattle.rules.specs.Document01.Mco.{mco1_code, mco2_code}
 use Rattle.claims.specs.Rust.Run as Rust
-use Rattle.claims.specs.Rust.Run.{Outcome, Run, ◌>>=◌, ◌>>◌, return, panic, assert, modify, poll, assert_reads, unwrap, unwrap_or, is_some, or, div_ceil}
+use Rattle.claims.specs.Rust.Run.{Outcome, Run, ◌>>=◌, ◌>>◌, return, panic, assert, modify, poll, assert_reads, unwrap, div_ceil}
 use Rattle.claims.specs.Rust.CoreClocks.{PllClocks, CoreClocks}
 use Rattle.claims.specs.Rust.Pll.{PllConfig, pll_setup}
 use Rattle.claims.specs.Rust.Mco.{MCO1Config, MCO2Config, Prescaled, calculate_prescaler}
@@ -44,16 +43,16 @@ MAX-SYSCLK-FREQ-HZ = 250_000_000
 
 -- struct Config
 pub record Config : Type 0 where
-  pub hse : Hertz
+  pub hse : Option ℕ
   pub bypass_hse : Bool
-  pub lse : Hertz
-  pub sys_ck : Hertz
-  pub per_ck : Hertz
-  pub audio_ck : Hertz
-  pub rcc_hclk : Hertz
-  pub rcc_pclk1 : Hertz
-  pub rcc_pclk2 : Hertz
-  pub rcc_pclk3 : Hertz
+  pub lse : Option ℕ
+  pub sys_ck : Option ℕ
+  pub per_ck : Option ℕ
+  pub audio_ck : Option ℕ
+  pub rcc_hclk : Option ℕ
+  pub rcc_pclk1 : Option ℕ
+  pub rcc_pclk2 : Option ℕ
+  pub rcc_pclk3 : Option ℕ
   pub mco1 : MCO1Config
   pub mco2 : MCO2Config
   pub pll1 : PllConfig
@@ -63,9 +62,9 @@ pub record Config : Type 0 where
 -- ---- the setters: one is called where the request has its hertz, and a default stays where not
 
 -- fn sys_ck, hclk, pclk1, pclk2, pclk3: assert!(freq.to_raw() <= MAX_SYSCLK_FREQ_HZ)
-abbrev pub set_capped : Hertz → Run (Unit {0})
-set_capped Unset = return tt
-set_capped (Hz freq) = assert (leb freq MAX-SYSCLK-FREQ-HZ)
+abbrev pub set_capped : Option ℕ → Run (Unit {0})
+set_capped None = return tt
+set_capped (Some freq) = assert (leb freq MAX-SYSCLK-FREQ-HZ)
 
 -- pllX_strategy, pllX_p_ck, pllX_q_ck, pllX_r_ck
 abbrev pub pll_config : PllRequest → PllConfig
@@ -104,11 +103,11 @@ setters q = do
 -- ---- fn mco1_setup, fn mco2_setup (mco.rs), fn sys_ck_setup: they change the config
 
 -- self.config.pll1.q_ck = .., self.config.pll1.p_ck = ..
-abbrev pub with_q_ck : PllConfig → Hertz → PllConfig
+abbrev pub with_q_ck : PllConfig → Option ℕ → PllConfig
 with_q_ck pll q_ck = record { strategy = pll.strategy; p_ck = pll.p_ck; q_ck = q_ck; r_ck = pll.r_ck }
 
 -- self.config.pll1.p_ck = ..
-abbrev pub with_p_ck : PllConfig → Hertz → PllConfig
+abbrev pub with_p_ck : PllConfig → Option ℕ → PllConfig
 with_p_ck pll p_ck = record { strategy = pll.strategy; p_ck = p_ck; q_ck = pll.q_ck; r_ck = pll.r_ck }
 
 -- self.config.pll1 = ..
@@ -152,7 +151,7 @@ with_pll2 c pll = record {
 }
 
 -- self.config.sys_ck = ..
-abbrev pub with_sys_ck : Config → Hertz → Config
+abbrev pub with_sys_ck : Config → Option ℕ → Config
 with_sys_ck c sys_ck = record {
   hse = c.hse;
   bypass_hse = c.bypass_hse;
@@ -178,7 +177,7 @@ mco1_source Mco1Source.Lse c = return c
 mco1_source Mco1Source.Hse c = do
   assert (is_some c.hse)
   return c
-mco1_source Mco1Source.Pll1Q c = return (with_pll1 c (with_q_ck c.pll1 (or c.pll1.q_ck c.mco1.frequency)))
+mco1_source Mco1Source.Pll1Q c = return (with_pll1 c (with_q_ck c.pll1 (option_or c.pll1.q_ck c.mco1.frequency)))
 mco1_source Mco1Source.Hsi48 c = return c
 
 -- fn mco1_setup
@@ -187,12 +186,12 @@ mco1_setup c = mco1_source c.mco1.source c
 
 -- Sysclk, Pll2P, Pll1P: filled if none; Hse: assert!(hse.is_some())
 abbrev pub mco2_source : Mco2Source → Config → Run Config
-mco2_source Mco2Source.Sysclk c = return (with_sys_ck c (or c.sys_ck c.mco2.frequency))
-mco2_source Mco2Source.Pll2P c = return (with_pll2 c (with_p_ck c.pll2 (or c.pll2.p_ck c.mco2.frequency)))
+mco2_source Mco2Source.Sysclk c = return (with_sys_ck c (option_or c.sys_ck c.mco2.frequency))
+mco2_source Mco2Source.Pll2P c = return (with_pll2 c (with_p_ck c.pll2 (option_or c.pll2.p_ck c.mco2.frequency)))
 mco2_source Mco2Source.Hse c = do
   assert (is_some c.hse)
   return c
-mco2_source Mco2Source.Pll1P c = return (with_pll1 c (with_p_ck c.pll1 (or c.pll1.p_ck c.mco2.frequency)))
+mco2_source Mco2Source.Pll1P c = return (with_pll1 c (with_p_ck c.pll1 (option_or c.pll1.p_ck c.mco2.frequency)))
 mco2_source Mco2Source.Csi c = return c
 mco2_source Mco2Source.Lsi c = return c
 
@@ -201,11 +200,11 @@ unfoldable pub mco2_setup : Config → Run Config
 mco2_setup c = mco2_source c.mco2.source c
 
 -- match self.config.pll1.p_ck
-abbrev pub pll1_p_for : (sys_ck : ℕ) → Hertz → Run Hertz
-pll1_p_for sys_ck (Hz p_ck) = do
+abbrev pub pll1_p_for : (sys_ck : ℕ) → Option ℕ → Run (Option ℕ)
+pll1_p_for sys_ck (Some p_ck) = do
   assert (eqb p_ck sys_ck)
-  return (Hz p_ck)
-pll1_p_for sys_ck Unset = return (Hz sys_ck)
+  return (Some p_ck)
+pll1_p_for sys_ck None = return (Some sys_ck)
 
 -- (Hertz, bool), and the config
 pub record SysCk : Type 0 where
@@ -274,7 +273,7 @@ pub record Pclk : Type 0 where
   pub pclk : ℕ
 
 -- the whole macro, for one bus
-unfoldable pub ppre_calculate : (hclk : ℕ) → (pclk : Hertz) → Run Pclk
+unfoldable pub ppre_calculate : (hclk : ℕ) → (pclk : Option ℕ) → Run Pclk
 ppre_calculate hclk pclk = do
   ratio ← div_ceil hclk (unwrap_or pclk hclk)
   bits ← match_ppre ratio
@@ -360,7 +359,7 @@ pub record Plls : Type 0 where
 
 -- (None, None, None)
 abbrev pub no_pll : PllClocks
-no_pll = record { p_ck = Unset; q_ck = Unset; r_ck = Unset }
+no_pll = record { p_ck = None; q_ck = None; r_ck = None }
 
 -- #[cfg(feature = "rm0481")]
 abbrev pub if_rm0481 : {A : Type 0} → Bool → Run A → A → Run A
@@ -389,10 +388,10 @@ abbrev pub csi_or_hsi : ℕ → PerCk
 csi_or_hsi ck = cond (eqb ck CSI) (record { per_ck = CSI; ckpersel = 1 }) (record { per_ck = HSI; ckpersel = 0 })
 
 -- the whole match
-unfoldable pub match_per_ck : (per_ck hse : Hertz) → PerCk
-match_per_ck Unset hse = record { per_ck = HSI; ckpersel = 0 }
-match_per_ck (Hz ck) Unset = csi_or_hsi ck
-match_per_ck (Hz ck) (Hz hse) = cond (eqb ck hse) (record { per_ck = ck; ckpersel = 2 }) (csi_or_hsi ck)
+unfoldable pub match_per_ck : (per_ck hse : Option ℕ) → PerCk
+match_per_ck None hse = record { per_ck = HSI; ckpersel = 0 }
+match_per_ck (Some ck) None = csi_or_hsi ck
+match_per_ck (Some ck) (Some hse) = cond (eqb ck hse) (record { per_ck = ck; ckpersel = 2 }) (csi_or_hsi ck)
 
 -- (hpre_div, rcc_hclk)
 pub record Hclk : Type 0 where
@@ -400,7 +399,7 @@ pub record Hclk : Type 0 where
   pub rcc_hclk : ℕ
 
 -- rcc_hclk, its divisor, and sys_ck / hpre_div
-unfoldable pub hclk_calculate : (sys_ck : ℕ) → (rcc_hclk : Hertz) → Run Hclk
+unfoldable pub hclk_calculate : (sys_ck : ℕ) → (rcc_hclk : Option ℕ) → Run Hclk
 hclk_calculate sys_ck rcc_hclk = do
   ratio ← div_ceil sys_ck (unwrap_or rcc_hclk sys_ck)
   hpre_div ← match_hpre ratio
@@ -455,20 +454,20 @@ mcos_calculate sys_ck c l = do
   return (record { mco1 = mco1; mco2 = mco2 })
 
 -- match self.config.hse
-abbrev pub enable_hse : Hertz → Bool → Run (Unit {0})
-enable_hse Unset bypass = return tt
-enable_hse (Hz hse) bypass = do
+abbrev pub enable_hse : Option ℕ → Bool → Run (Unit {0})
+enable_hse None bypass = return tt
+enable_hse (Some hse) bypass = do
   modify (Set2 Fields.HSEON 1 Fields.HSEBYP (cond bypass 1 0))
   poll (Wait Fields.HSERDY 1)
 
 -- PLLxSRC: Hse or Hsi
-abbrev pub pllsrc : Hertz → ℕ
+abbrev pub pllsrc : Option ℕ → ℕ
 pllsrc hse = cond (is_some hse) 3 1
 
 -- if pllX_p_ck.is_some()
-abbrev pub enable_pll : (k : ℕ) → Hertz → Run (Unit {0})
-enable_pll k Unset = return tt
-enable_pll k (Hz p_ck) = do
+abbrev pub enable_pll : (k : ℕ) → Option ℕ → Run (Unit {0})
+enable_pll k None = return tt
+enable_pll k (Some p_ck) = do
   modify (Set (of_pll k Fields.ON) 1)
   poll (Wait (of_pll k Fields.RDY) 1)
 
@@ -523,11 +522,11 @@ core_clocks_of sys_ck c l b m timpre = record {
   ppre1 = ppre_div b.pclk1.bits;
   ppre2 = ppre_div b.pclk2.bits;
   ppre3 = ppre_div b.pclk3.bits;
-  csi_ck = Hz CSI;
-  hsi_ck = Hz HSI;
-  hsi48_ck = Hz HSI48;
-  lsi_ck = Hz LSI;
-  per_ck = Hz (match_per_ck c.per_ck c.hse).per_ck;
+  csi_ck = Some CSI;
+  hsi_ck = Some HSI;
+  hsi48_ck = Some HSI48;
+  lsi_ck = Some LSI;
+  per_ck = Some (match_per_ck c.per_ck c.hse).per_ck;
   hse_ck = c.hse;
   lse_ck = c.lse;
   audio_ck = c.audio_ck;

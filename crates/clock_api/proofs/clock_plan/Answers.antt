@@ -1,5 +1,5 @@
 -- `clock_api::clock_plan` meets its contract.
-use Rattle.clock_api.proofs.Answers.{asked_fits}
+use Rattle.clock_api.proofs.Fits.{asked_fits}
 use Rattle.clock_api.proofs.clock_plan.Goals as goal
 
 pub report_by-requires : goal.report_by-requires

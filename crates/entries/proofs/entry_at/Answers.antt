@@ -1,11 +1,7 @@
--- `entries::entry_at` meets its contract.
 use Rattle.rules.specs.Document01.Entries.{entries_of}
+use Rattle.entries.proofs.Picked.{pick_is}
 use Rattle.entries.proofs.entry_at.Goals as goal
 
-pub returns-in-Accepted : goal.returns-in-Accepted
-unfolding entries_of
-returns-in-Accepted c = rw c.in-Accepted.is c.plan_at.ensures
-
-pub returns-in-Refused : goal.returns-in-Refused
-unfolding entries_of
-returns-in-Refused c = rw c.in-Refused.is
+-- src/lib.rt
+pub returns : goal.returns
+returns c = pick_is (entries_of c.args.x.now) c.args.k c.tell.new.s _ c.tell.ensures

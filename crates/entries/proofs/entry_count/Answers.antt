@@ -1,11 +1,6 @@
--- `entries::entry_count` meets its contract.
-use Rattle.rules.specs.Document01.Entries.{entries_of}
+use Rattle.entries.proofs.Counted.{count_is}
 use Rattle.entries.proofs.entry_count.Goals as goal
 
-pub returns-in-Accepted : goal.returns-in-Accepted
-unfolding entries_of
-returns-in-Accepted c = rw c.in-Accepted.is c.plan_count.ensures
-
-pub returns-in-Refused : goal.returns-in-Refused
-unfolding entries_of
-returns-in-Refused c = rw c.in-Refused.is
+-- src/lib.rt
+pub returns : goal.returns
+returns c = count_is c.args.x.now c.tell.new.s _ c.tell.ensures

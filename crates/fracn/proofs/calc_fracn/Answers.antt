@@ -1,8 +1,8 @@
 -- `fracn::calc_fracn` meets its contract: each way is a lemma of `Accept` at the value that is tested.
+use Rattle.std.specs.Prelude.{Option}
 use Rattle.std.proofs.Common.{◌≡◌, ℕ, ◌^◌, ◌<◌, sym, ap, ◌∙◌, subst}
 use lib.Ieee.{Float, of_bits, of_int}
 use lib.Ieee.Casts.{to_unsigned-lt}
-use Rattle.types.specs.declared.Fracn.{Fracn}
 use Rattle.ieee754.specs.Steps.{fracn_of, fracn_float}
 use Rattle.rules.specs.Document01.OnePll.{taken, fracn_from}
 use Rattle.fracn.specs.declared.FracnInput.{FracnInput}
@@ -14,7 +14,7 @@ abbrev tested : FracnInput → Float
 tested i = fracn_float i.reference i.n i.divider i.output
 
 -- what the f32 step answers is document 01's FRACN, or its refusal 13
-both : (i : FracnInput) {r : Fracn} → r ≡ fracn_of i.reference i.n i.divider i.output
+both : (i : FracnInput) {r : Option ℕ} → r ≡ fracn_of i.reference i.n i.divider i.output
     → (r ≡ fracn_of i.reference i.n i.divider i.output) × (taken r ≡ fracn_from i.reference i.n i.divider i.output)
 both i e = (e, ap taken e ∙ taken_from i.reference i.n i.divider i.output)
 

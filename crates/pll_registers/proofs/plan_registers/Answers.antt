@@ -1,38 +1,10 @@
--- `pll_registers::plan_registers` meets its contract.
-use Rattle.pll_registers.proofs.Answers.{other_length, stored, kept}
+use mathlib.Core.Path.{sym}
+use Rattle.pll_registers.proofs.Registers.{stored_hold}
 use Rattle.pll_registers.proofs.plan_registers.Goals as goal
 
-pub returns-then-words-ne-WORDS-clause-answer : goal.returns-then-words-ne-WORDS-clause-answer
-returns-then-words-ne-WORDS-clause-answer c =
+-- src/lib.rt
+pub returns-clause-bank : goal.returns-clause-bank
+returns-clause-bank c =
     let x = c.args in
-    (other_length x.request.now x.chip x.words.now c.if-words-ne-WORDS.true).0
-
-pub returns-then-words-ne-WORDS-clause-words : goal.returns-then-words-ne-WORDS-clause-words
-returns-then-words-ne-WORDS-clause-words c =
-    let x = c.args in
-    (other_length x.request.now x.chip x.words.now c.if-words-ne-WORDS.true).1.0
-
-pub returns-in-Accepted-clause-answer : goal.returns-in-Accepted-clause-answer
-returns-in-Accepted-clause-answer c =
-    let x = c.args in
-    (stored x.request.now x.chip x.words.now c.if-words-ne-WORDS.false c.plan-x.ensures.rules c.in-Accepted.is c.store_registers.ensures).0
-
-pub returns-in-Accepted-clause-words : goal.returns-in-Accepted-clause-words
-returns-in-Accepted-clause-words c =
-    let x = c.args in
-    (stored x.request.now x.chip x.words.now c.if-words-ne-WORDS.false c.plan-x.ensures.rules c.in-Accepted.is c.store_registers.ensures).1.0
-
-pub returns-in-Accepted-clause-bank : goal.returns-in-Accepted-clause-bank
-returns-in-Accepted-clause-bank c =
-    let x = c.args in
-    (stored x.request.now x.chip x.words.now c.if-words-ne-WORDS.false c.plan-x.ensures.rules c.in-Accepted.is c.store_registers.ensures).1.1
-
-pub returns-in_default-clause-answer : goal.returns-in_default-clause-answer
-returns-in_default-clause-answer c =
-    let x = c.args in
-    (kept x.request.now x.chip x.words.now c.if-words-ne-WORDS.false c.plan-x.ensures.rules c.in_default.is).0
-
-pub returns-in_default-clause-words : goal.returns-in_default-clause-words
-returns-in_default-clause-words c =
-    let x = c.args in
-    (kept x.request.now x.chip x.words.now c.if-words-ne-WORDS.false c.plan-x.ensures.rules c.in_default.is).1.0
+    let p = c.in_ok-plan in
+    λ f k l. stored_hold x.request.now x.chip p.plan (sym p.ensures.rules) k l x.words.now c.store_registers.new.out c.if-words-ne-WORDS.false c.store_registers.ensures

@@ -1,4 +1,5 @@
 -- The parts of a request's byte form: what is written is read again, and only what is written is read (document 01, One call, from the top).
+use Rattle.std.specs.Prelude.{Option, Some, None, Result, Ok}
 use mathlib.Core.Path.{◌≡◌, refl, sym, ap, subst, ◌∙◌}
 use mathlib.Core.Bool.{Bool, true, false, cond}
 use mathlib.Core.List.{List, [], ◌∷◌, ◌++◌, append_assoc}
@@ -8,22 +9,20 @@ use native.Mathlib.Nat.{div-div-eq-div-mul, div-eq_of_lt-le, mod-add-div, mod-eq
 use lib.Dec.{eqb, ltb}
 use lib.ListN.{get_or}
 use borrow.Author.Tests.{ltb-true, lt-ltb, eqb-true}
+use Rattle.types.specs.declared.Refusal.{Refusal}
 use Rattle.laws.proofs.Tests.{by_test, all_below, at_each}
-use Rattle.types.specs.declared.Hertz.{Hertz}
-use Rattle.types.specs.declared.Hertz.TheVariants.{Unset, Hz}
 use Rattle.types.specs.declared.Strategy.TheVariants.{Integer, Fractional}
 use Rattle.types.specs.declared.Mco1Source.{Mco1Source}
 use Rattle.types.specs.declared.Mco2Source.{Mco2Source}
 use Rattle.types.specs.declared.PllRequest.{PllRequest}
 use Rattle.rules.specs.Document01.Result as Result
-use Rattle.rules.specs.Document01.Result.{Result, ok}
 use Rattle.rules.specs.Document01.Mco.{mco1_code, mco2_code}
 use Rattle.rules.proofs.Document01.Results.{ok_same, not_ok, bind_ok}
 use Rattle.rules.specs.Document01.Bytes.{Read, Reader, ◌>>=◌, return, byte, code, u32le, set_to, hertz, flag, mco1_sources, mco1_source, mco2_sources, mco2_source, strategy, pll_part, third_part, u32le_bytes, hertz_bytes, flag_byte, strategy_code, pll_bytes, third_bytes, AllBytes, Hertz32, Pll32, Third}
 
 -- a value that was read, with the bytes after it
-abbrev pub read_as : {A : Type 0} → A → List ℕ → Result (Read A)
-read_as a rest = ok (record { value = a; rest = rest })
+abbrev pub read_as : {A : Type 0} → A → List ℕ → Result (Read A) Refusal
+read_as a rest = Ok (record { value = a; rest = rest })
 
 -- bytes are those of a good value, and the rest
 pub record Written {A : Type 0} (w : A → List ℕ) (Good : A → Type 0) (bytes : List ℕ) (x : Read A) : Type 0 where
@@ -34,34 +33,34 @@ pub record Written {A : Type 0} (w : A → List ℕ) (Good : A → Type 0) (byte
 -- a good value is read again from its bytes, whatever follows them; and nothing else is read
 pub record Inverse {A : Type 0} (r : Reader A) (w : A → List ℕ) (Good : A → Type 0) : Type 0 where
   pub back : (a : A) (rest : List ℕ) → Good a → r (w a ++ rest) ≡ read_as a rest
-  pub only : (bytes : List ℕ) (x : Read A) → AllBytes bytes → r bytes ≡ ok x → Written w Good bytes x
+  pub only : (bytes : List ℕ) (x : Read A) → AllBytes bytes → r bytes ≡ Ok x → Written w Good bytes x
 
 -- ---- results
 -- where two steps come to a value, so does the first
-pub with_ok : {A B Q : Type 0} (s : Result A) (k : A → Result B) (x : B) → Result.◌>>=◌ s k ≡ ok x → ((a : A) → s ≡ ok a → k a ≡ ok x → Q) → Q
+pub with_ok : {A B Q : Type 0} (s : Result A Refusal) (k : A → Result B Refusal) (x : B) → Result.◌>>=◌ s k ≡ Ok x → ((a : A) → s ≡ Ok a → k a ≡ Ok x → Q) → Q
 with_ok s k x e f = let b = bind_ok s k x e in f b.0 b.1 b.2
 
 -- the value made at the end is what was read
 ends :
     {A : Type 0} {w : A → List ℕ} {Good : A → Type 0} {bytes : List ℕ} {x : Read A} {a : A} {rest : List ℕ} →
-    read_as a rest ≡ ok x → bytes ≡ w a ++ rest → AllBytes rest → Good a → Written w Good bytes x
+    read_as a rest ≡ Ok x → bytes ≡ w a ++ rest → AllBytes rest → Good a → Written w Good bytes x
 ends {w = w} {Good = Good} {bytes = bytes} e s h g = subst (Written w Good bytes) (ok_same e) (record { split = s; after = h; good = g })
 
 -- ---- one part, then the next: writing, and reading
 module _ {A B : Type 0} {r : Reader A} {w : A → List ℕ} {Good : A → Type 0} (i : Inverse r w Good) where
-  pub give : (k : Read A → Result B) (a : A) (rest : List ℕ) {y : Result B} → Good a → k (record { value = a; rest = rest }) ≡ y → Result.◌>>=◌ (r (w a ++ rest)) k ≡ y
+  pub give : (k : Read A → Result B Refusal) (a : A) (rest : List ℕ) {y : Result B Refusal} → Good a → k (record { value = a; rest = rest }) ≡ y → Result.◌>>=◌ (r (w a ++ rest)) k ≡ y
   give k a rest g e = rw (i.back a rest g) e
 
   pub take :
-      {Q : Type 0} (k : Read A → Result B) (x : B) (bytes : List ℕ) → AllBytes bytes → Result.◌>>=◌ (r bytes) k ≡ ok x →
-      ((a : A) (rest : List ℕ) → bytes ≡ w a ++ rest → AllBytes rest → Good a → k (record { value = a; rest = rest }) ≡ ok x → Q) → Q
+      {Q : Type 0} (k : Read A → Result B Refusal) (x : B) (bytes : List ℕ) → AllBytes bytes → Result.◌>>=◌ (r bytes) k ≡ Ok x →
+      ((a : A) (rest : List ℕ) → bytes ≡ w a ++ rest → AllBytes rest → Good a → k (record { value = a; rest = rest }) ≡ Ok x → Q) → Q
   take k x bytes h e f =
       with_ok (r bytes) k x e λ y p n.
       let o = i.only bytes y h p in
       f y.value y.rest o.split o.after o.good n
 
 -- ---- codes
-code_only : (n : ℕ) (bytes : List ℕ) (x : Read ℕ) → AllBytes bytes → code n bytes ≡ ok x → Written (λ b. b ∷ []) (λ b. b < n) bytes x
+code_only : (n : ℕ) (bytes : List ℕ) (x : Read ℕ) → AllBytes bytes → code n bytes ≡ Ok x → Written (λ b. b ∷ []) (λ b. b < n) bytes x
 unfolding code byte
 code_only n [] x h e = not_ok e
 code_only n (b ∷ rest) x h e =
@@ -102,7 +101,7 @@ module _ (a b c d : ℕ) (ha : a < 256) (hb : b < 256) (hc : c < 256) (hd : d < 
       let b3 : h / 16_777_216 % 256 ≡ d = rw d3 (mod-eq_of_lt hd) in
       cc
 
-u32le_only : (bytes : List ℕ) (x : Read ℕ) → AllBytes bytes → u32le bytes ≡ ok x → Written u32le_bytes (λ h. h < 4_294_967_296) bytes x
+u32le_only : (bytes : List ℕ) (x : Read ℕ) → AllBytes bytes → u32le bytes ≡ Ok x → Written u32le_bytes (λ h. h < 4_294_967_296) bytes x
 unfolding u32le byte
 u32le_only [] x h e = not_ok e
 u32le_only (a ∷ []) x h e = not_ok e
@@ -116,12 +115,12 @@ unfolding u32le byte
 u32le_inverse = record { back = λ a rest g. ap (λ (h : ℕ). read_as h rest) (word_is a g); only = u32le_only }
 
 -- ---- hertz
-hertz_back : (a : Hertz) (rest : List ℕ) → Hertz32 a → hertz (hertz_bytes a ++ rest) ≡ read_as a rest
+hertz_back : (a : Option ℕ) (rest : List ℕ) → Hertz32 a → hertz (hertz_bytes a ++ rest) ≡ read_as a rest
 unfolding hertz
-hertz_back Unset rest g = give (code_inverse 2) _ 0 _ (omega arith) (give u32le_inverse _ 0 rest (omega arith) refl)
-hertz_back (Hz h) rest g = give (code_inverse 2) _ 1 _ (omega arith) (give u32le_inverse _ h rest g refl)
+hertz_back None rest g = give (code_inverse 2) _ 0 _ (omega arith) (give u32le_inverse _ 0 rest (omega arith) refl)
+hertz_back (Some h) rest g = give (code_inverse 2) _ 1 _ (omega arith) (give u32le_inverse _ h rest g refl)
 
-set_only : (set n : ℕ) (rest : List ℕ) (x : Read Hertz) → AllBytes rest → set < 2 → n < 4_294_967_296 → set_to set n rest ≡ ok x → Written hertz_bytes Hertz32 (set ∷ (u32le_bytes n ++ rest)) x
+set_only : (set n : ℕ) (rest : List ℕ) (x : Read (Option ℕ)) → AllBytes rest → set < 2 → n < 4_294_967_296 → set_to set n rest ≡ Ok x → Written hertz_bytes Hertz32 (set ∷ (u32le_bytes n ++ rest)) x
 set_only zero n rest x h s g e =
     by_test (eqb n 0)
     (λ (t : eqb n 0 ≡ true). ends (rw t at e) (rw (eqb-true n 0 t)) h tt)
@@ -129,7 +128,7 @@ set_only zero n rest x h s g e =
 set_only (suc zero) n rest x h s g e = ends e refl h g
 set_only (suc (suc set)) n rest x h s g e = absurd (omega arith)
 
-hertz_only : (bytes : List ℕ) (x : Read Hertz) → AllBytes bytes → hertz bytes ≡ ok x → Written hertz_bytes Hertz32 bytes x
+hertz_only : (bytes : List ℕ) (x : Read (Option ℕ)) → AllBytes bytes → hertz bytes ≡ Ok x → Written hertz_bytes Hertz32 bytes x
 unfolding hertz
 hertz_only bytes x h e =
     take (code_inverse 2) _ x bytes h e λ set l p h s e.
@@ -186,7 +185,7 @@ pll_back a rest g =
     (give hertz_inverse _ a.q _ g.q
     (give hertz_inverse _ a.r _ g.r refl)))))
 
-pll_only : (bytes : List ℕ) (x : Read PllRequest) → AllBytes bytes → pll_part bytes ≡ ok x → Written pll_bytes Pll32 bytes x
+pll_only : (bytes : List ℕ) (x : Read PllRequest) → AllBytes bytes → pll_part bytes ≡ Ok x → Written pll_bytes Pll32 bytes x
 unfolding pll_part
 pll_only bytes x h e =
     take strategy_inverse _ x bytes h e λ s l0 b0 h0 g0 e0.

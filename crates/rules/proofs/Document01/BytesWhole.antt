@@ -1,22 +1,22 @@
 -- A request's byte form, whole: what can be written is read again, nothing else is read, and its length (document 01, One call, from the top).
+use Rattle.std.specs.Prelude.{Option, Some, None, Result, Ok}
 use mathlib.Core.Path.{◌≡◌, refl, sym, ap, subst, ◌∙◌}
 use mathlib.Core.Bool.{Bool, true, false}
 use mathlib.Core.List.{List, [], ◌∷◌, append-nil}
 use Prim.Native.Nat.{ℕ, ◌≤◌}
 use native.Mathlib.Omega.{arith}
 use lib.ListN.{get_or, length, length-append}
-use Rattle.types.specs.declared.Hertz.{Hertz}
-use Rattle.types.specs.declared.Hertz.TheVariants.{Unset, Hz}
+use Rattle.types.specs.declared.Refusal.{Refusal}
 use Rattle.types.specs.declared.PllRequest.{PllRequest}
 use Rattle.types.specs.declared.Request.{Request}
 use Rattle.types.specs.declared.Chip.{Chip}
 use Rattle.types.specs.declared.ChipState.{ChipState}
 use Rattle.rules.specs.Document01.Result as Result
-use Rattle.rules.specs.Document01.Result.{Result, ok}
 use Rattle.rules.specs.Document01.Request.{pll_at}
 use Rattle.rules.specs.Document01.Chip.{chip_of}
 use Rattle.rules.specs.Document01.Bytes.{Read, end, request_part, hertz_bytes, pll_bytes, third_bytes, request_bytes, size_of, AllBytes, Writable}
-use Rattle.rules.specs.Document01.Plan.{Asked, request_of}
+use Rattle.types.specs.declared.Asked.{Asked}
+use Rattle.rules.specs.Document01.Plan.{request_of}
 use Rattle.rules.proofs.Document01.Results.{ok_same, not_ok}
 use Rattle.rules.proofs.Document01.Bytes.{with_ok, give, take, flag_inverse, hertz_inverse, mco1_inverse, mco2_inverse, pll_inverse, third_inverse}
 
@@ -49,7 +49,7 @@ with_parts q l = record {
   plls = l;
 }
 
-pub written_reads : (three : Bool) (q : Request) → Writable three q → request_part three (request_bytes three q) ≡ ok (record { value = q; rest = [] })
+pub written_reads : (three : Bool) (q : Request) → Writable three q → request_part three (request_bytes three q) ≡ Ok (record { value = q; rest = [] })
 unfolding request_part request_bytes end
 written_reads three q w =
     give hertz_inverse _ q.hse _ w.hse
@@ -70,7 +70,7 @@ written_reads three q w =
     (give pll_inverse _ (pll_at q 1) _ w.pll2
     (rw (← append-nil (third_bytes three (pll_at q 2)))
     (give (third_inverse three) _ (pll_at q 2) [] (w.pll3, w.third)
-    (ap (λ l. ok (record { value = with_parts q l; rest = [] })) (parts q.plls _ w.three_parts)))))))))))))))))))
+    (ap (λ l. Ok (record { value = with_parts q l; rest = [] })) (parts q.plls _ w.three_parts)))))))))))))))))))
 
 -- ---- nothing else is read
 pub record AsWritten (three : Bool) (bytes : List ℕ) (x : Read Request) : Type 0 where
@@ -78,12 +78,12 @@ pub record AsWritten (three : Bool) (bytes : List ℕ) (x : Read Request) : Type
   pub whole : x.rest ≡ []
   pub writable : Writable three x.value
 
-at_end : {B : Type 0} {P : Type 0} (k : Read (Unit {0}) → Result B) (l : List ℕ) (x : B) → Result.◌>>=◌ (end l) k ≡ ok x → (l ≡ [] → k (record { value = tt; rest = [] }) ≡ ok x → P) → P
+at_end : {B : Type 0} {P : Type 0} (k : Read (Unit {0}) → Result B Refusal) (l : List ℕ) (x : B) → Result.◌>>=◌ (end l) k ≡ Ok x → (l ≡ [] → k (record { value = tt; rest = [] }) ≡ Ok x → P) → P
 unfolding end
 at_end k [] x e f = f refl e
 at_end k (b ∷ l) x e f = not_ok e
 
-pub accepted_written : (three : Bool) (bytes : List ℕ) (x : Read Request) → AllBytes bytes → request_part three bytes ≡ ok x → AsWritten three bytes x
+pub accepted_written : (three : Bool) (bytes : List ℕ) (x : Read Request) → AllBytes bytes → request_part three bytes ≡ Ok x → AsWritten three bytes x
 unfolding request_part request_bytes
 accepted_written three bytes x h e =
     take hertz_inverse _ x bytes h e λ hse l0 b0 h0 g0 e.
@@ -128,9 +128,9 @@ accepted_written three bytes x h e =
     })
 
 -- ---- the length
-pub hertz_length : (a : Hertz) → length (hertz_bytes a) ≡ 5
-hertz_length Unset = refl
-hertz_length (Hz h) = refl
+pub hertz_length : (a : Option ℕ) → length (hertz_bytes a) ≡ 5
+hertz_length None = refl
+hertz_length (Some h) = refl
 
 pub pll_length : (a : PllRequest) → length (pll_bytes a) ≡ 16
 pll_length a = simp (length-append, hertz_length)
@@ -146,17 +146,17 @@ at_least true = omega arith
 at_least false = omega arith
 
 -- ---- on the bytes and the chip's numbers
-pub reads_back : (q : Request) (chip : Chip) (c : ChipState) → chip_of chip ≡ ok c → Writable c.three q → request_of (request_bytes c.three q) chip ≡ ok (record { request = q; chip = c })
+pub reads_back : (q : Request) (chip : Chip) (c : ChipState) → chip_of chip ≡ Ok c → Writable c.three q → request_of (request_bytes c.three q) chip ≡ Ok (record { request = q; chip = c })
 unfolding request_of
 reads_back q chip c e w = rw (e, written_reads c.three q w)
 
 -- what was asked: the chip is allowed, and the bytes are those of the request
 pub record AskedBy (bytes : List ℕ) (chip : Chip) (a : Asked) : Type 0 where
-  pub allowed : chip_of chip ≡ ok a.chip
+  pub allowed : chip_of chip ≡ Ok a.chip
   pub written : bytes ≡ request_bytes a.chip.three a.request
   pub writable : Writable a.chip.three a.request
 
-pub asked_by : (bytes : List ℕ) (chip : Chip) (a : Asked) → AllBytes bytes → request_of bytes chip ≡ ok a → AskedBy bytes chip a
+pub asked_by : (bytes : List ℕ) (chip : Chip) (a : Asked) → AllBytes bytes → request_of bytes chip ≡ Ok a → AskedBy bytes chip a
 unfolding request_of
 asked_by bytes chip a h e =
     with_ok (chip_of chip) _ a e λ c p e.
@@ -164,11 +164,11 @@ asked_by bytes chip a h e =
     let o = accepted_written c.three bytes x h r in
     subst (AskedBy bytes chip) (ok_same e) (record { allowed = p; written = o.written; writable = o.writable })
 
-pub bytes_unique : (bs cs : List ℕ) (chip : Chip) (a : Asked) → AllBytes bs → AllBytes cs → request_of bs chip ≡ ok a → request_of cs chip ≡ ok a → bs ≡ cs
+pub bytes_unique : (bs cs : List ℕ) (chip : Chip) (a : Asked) → AllBytes bs → AllBytes cs → request_of bs chip ≡ Ok a → request_of cs chip ≡ Ok a → bs ≡ cs
 bytes_unique bs cs chip a hb hc eb ec = (asked_by bs chip a hb eb).written ∙ sym (asked_by cs chip a hc ec).written
 
-pub accepted_length : (bs : List ℕ) (chip : Chip) (a : Asked) → AllBytes bs → request_of bs chip ≡ ok a → length bs ≡ size_of a.chip.three
+pub accepted_length : (bs : List ℕ) (chip : Chip) (a : Asked) → AllBytes bs → request_of bs chip ≡ Ok a → length bs ≡ size_of a.chip.three
 accepted_length bs chip a h e = rw (asked_by bs chip a h e).written (written_length a.chip.three a.request)
 
-pub accepted_writable : (bs : List ℕ) (chip : Chip) (a : Asked) → AllBytes bs → request_of bs chip ≡ ok a → Writable a.chip.three a.request
+pub accepted_writable : (bs : List ℕ) (chip : Chip) (a : Asked) → AllBytes bs → request_of bs chip ≡ Ok a → Writable a.chip.three a.request
 accepted_writable bs chip a h e = (asked_by bs chip a h e).writable

@@ -1,4 +1,5 @@
 -- Laws of the choice of M: what the fold's steps give, that what it holds is in range, and that it is the smallest M with the least shortfall.
+use Rattle.std.specs.Prelude.{Option, Some, None}
 use mathlib.Core.Path.{◌≡◌, refl, ap, subst}
 use Prim.Native.Nat.{ℕ, zero, suc, ◌+◌, ◌-◌, ◌*◌, ◌≤◌, ◌<◌}
 use mathlib.Core.Bool.{Bool, true, false}
@@ -8,8 +9,6 @@ use native.Mathlib.Nat.{le_trans, le-mul_of_pos_right}
 use lib.Dec.{ltb, leb}
 use borrow.Author.Tests.{ltb-true, ltb-false, leb-true, leb-false, le-leb}
 use Rattle.laws.proofs.Tests.{tested, and_left, and_right}
-use Rattle.types.specs.declared.FoundM.{FoundM}
-use Rattle.types.specs.declared.FoundM.TheVariants.{Nothing, M}
 use Rattle.rules.specs.Document01.ChoiceOfM.{in_range, shortfall_of, better_of, best_to, chosen_m, Admissible, Chosen}
 
 module _ (source low high : ℕ) where
@@ -36,30 +35,30 @@ module _ (source low high : ℕ) where
 
 module _ (source target low high : ℕ) where
   -- ---- the steps
-  pub better_out : (f : FoundM) (m : ℕ) → in_range source low high m ≡ false → better_of source target low high f m ≡ f
+  pub better_out : (f : Option ℕ) (m : ℕ) → in_range source low high m ≡ false → better_of source target low high f m ≡ f
   unfolding better_of
-  better_out Nothing m h = simp h
-  better_out (M k) m h = simp h
+  better_out None m h = simp h
+  better_out (Some k) m h = simp h
 
-  pub better_first : (m : ℕ) → in_range source low high m ≡ true → better_of source target low high Nothing m ≡ M m
+  pub better_first : (m : ℕ) → in_range source low high m ≡ true → better_of source target low high None m ≡ Some m
   unfolding better_of
   better_first m h = simp h
 
-  pub better_less : (k m : ℕ) → in_range source low high m ≡ true → ltb (shortfall_of source target m) (shortfall_of source target k) ≡ true → better_of source target low high (M k) m ≡ M m
+  pub better_less : (k m : ℕ) → in_range source low high m ≡ true → ltb (shortfall_of source target m) (shortfall_of source target k) ≡ true → better_of source target low high (Some k) m ≡ Some m
   unfolding better_of
   better_less k m h l = simp (h, l)
 
-  pub better_not : (k m : ℕ) → in_range source low high m ≡ true → ltb (shortfall_of source target m) (shortfall_of source target k) ≡ false → better_of source target low high (M k) m ≡ M k
+  pub better_not : (k m : ℕ) → in_range source low high m ≡ true → ltb (shortfall_of source target m) (shortfall_of source target k) ≡ false → better_of source target low high (Some k) m ≡ Some k
   unfolding better_of
   better_not k m h l = simp (h, l)
 
-  abbrev best : ℕ → FoundM
+  abbrev best : ℕ → Option ℕ
   best = best_to source target low high
 
   abbrev short : ℕ → ℕ
   short = shortfall_of source target
 
-  pub best_none : best 0 ≡ Nothing
+  pub best_none : best 0 ≡ None
   unfolding best_to
   best_none = refl
 
@@ -75,9 +74,9 @@ module _ (source target low high : ℕ) where
   abbrev Beats : ℕ → ℕ → Type 0
   Beats m k = (short m ≤ short k) × (k < m → short m < short k)
 
-  abbrev Best : ℕ → FoundM → Type 0
-  Best n Nothing = (k : ℕ) → In n k → ⊥
-  Best n (M m) = In n m × ((k : ℕ) → In n k → Beats m k)
+  abbrev Best : ℕ → Option ℕ → Type 0
+  Best n None = (k : ℕ) → In n k → ⊥
+  Best n (Some m) = In n m × ((k : ℕ) → In n k → Beats m k)
 
   -- a k of 1 to n + 1 is one of 1 to n, or n + 1
   last : (n k : ℕ) → In (suc n) k → In n k ⊎ (k ≡ suc n)
@@ -90,15 +89,15 @@ module _ (source target low high : ℕ) where
   never : (n k : ℕ) → In (suc n) k → in_range source low high (suc n) ≡ false → k ≡ suc n → ⊥
   never n k i h e = let z : ◌≡◌ {A = ℕ} 0 1 = cc i.2 in omega arith
 
-  step_none : (n : ℕ) → Best n Nothing → (t : Bool) → in_range source low high (suc n) ≡ t → Best (suc n) (better_of source target low high Nothing (suc n))
+  step_none : (n : ℕ) → Best n None → (t : Bool) → in_range source low high (suc n) ≡ t → Best (suc n) (better_of source target low high None (suc n))
   step_none n b true h =
       rw (better_first (suc n) h) ((omega arith, omega arith, h), λ k i. ⊎_elim (λ j. absurd (b k j)) (λ e. beats_self (suc n) k e) (last n k i))
   step_none n b false h =
-      rw (better_out Nothing (suc n) h) (λ k i. ⊎_elim (λ j. b k j) (λ e. never n k i h e) (last n k i))
+      rw (better_out None (suc n) h) (λ k i. ⊎_elim (λ j. b k j) (λ e. never n k i h e) (last n k i))
 
-  step_some : (n m : ℕ) → Best n (M m) → (t : Bool) → in_range source low high (suc n) ≡ t → (l : Bool) → ltb (short (suc n)) (short m) ≡ l → Best (suc n) (better_of source target low high (M m) (suc n))
+  step_some : (n m : ℕ) → Best n (Some m) → (t : Bool) → in_range source low high (suc n) ≡ t → (l : Bool) → ltb (short (suc n)) (short m) ≡ l → Best (suc n) (better_of source target low high (Some m) (suc n))
   step_some n m b false h l g =
-      rw (better_out (M m) (suc n) h) ((b.0.0, omega arith, b.0.2), λ k i. ⊎_elim (λ j. b.1 k j) (λ e. absurd (never n k i h e)) (last n k i))
+      rw (better_out (Some m) (suc n) h) ((b.0.0, omega arith, b.0.2), λ k i. ⊎_elim (λ j. b.1 k j) (λ e. absurd (never n k i h e)) (last n k i))
   step_some n m b true h true g =
       let less : short (suc n) < short m = ltb-true _ _ g in
       rw (better_less m (suc n) h g) ((omega arith, omega arith, h), λ k i. ⊎_elim (λ j. let o : short m ≤ short k = (b.1 k j).0 in (omega arith, λ _. omega arith)) (λ e. beats_self (suc n) k e) (last n k i))
@@ -106,9 +105,9 @@ module _ (source target low high : ℕ) where
       let not-less : short m ≤ short (suc n) = ltb-false _ _ g in
       rw (better_not m (suc n) h g) ((b.0.0, omega arith, b.0.2), λ k i. ⊎_elim (λ j. b.1 k j) (λ e. let p : short k ≡ short (suc n) = ap short e in let le : m ≤ n = b.0.1 in (omega arith, λ o. absurd (omega arith))) (last n k i))
 
-  step : (n : ℕ) (f : FoundM) → Best n f → Best (suc n) (better_of source target low high f (suc n))
-  step n Nothing b = step_none n b (in_range source low high (suc n)) refl
-  step n (M m) b = step_some n m b (in_range source low high (suc n)) refl (ltb (short (suc n)) (short m)) refl
+  step : (n : ℕ) (f : Option ℕ) → Best n f → Best (suc n) (better_of source target low high f (suc n))
+  step n None b = step_none n b (in_range source low high (suc n)) refl
+  step n (Some m) b = step_some n m b (in_range source low high (suc n)) refl (ltb (short (suc n)) (short m)) refl
 
   pub best_is : (n : ℕ) → Best n (best n)
   unfolding best_to
@@ -116,7 +115,7 @@ module _ (source target low high : ℕ) where
   best_is (suc n) = step n (best n) (best_is n)
 
   -- ---- what the choice means
-  abbrev chosen : FoundM
+  abbrev chosen : Option ℕ
   chosen = chosen_m source target low high
 
   chosen_best : Best 63 chosen
@@ -127,13 +126,13 @@ module _ (source target low high : ℕ) where
   among a = (a.above, a.within, admits source low high a)
 
   -- nothing is chosen only where no M can be
-  pub chosen_nothing : chosen ≡ Nothing → (k : ℕ) → Admissible source low high k → ⊥
-  chosen_nothing e k a = subst (λ (f : FoundM). Best 63 f) e chosen_best k (among a)
+  pub chosen_nothing : chosen ≡ None → (k : ℕ) → Admissible source low high k → ⊥
+  chosen_nothing e k a = subst (λ (f : Option ℕ). Best 63 f) e chosen_best k (among a)
 
   -- what is chosen is the choice
-  pub chosen_some : (m : ℕ) → chosen ≡ M m → Chosen source target low high m
+  pub chosen_some : (m : ℕ) → chosen ≡ Some m → Chosen source target low high m
   chosen_some m e =
-      let b : Best 63 (M m) = subst (λ (f : FoundM). Best 63 f) e chosen_best in
+      let b : Best 63 (Some m) = subst (λ (f : Option ℕ). Best 63 f) e chosen_best in
       record {
         admissible = admitted source low high b.0.0 b.0.1 b.0.2;
         least = λ k a. (b.1 k (among a)).0;
@@ -149,17 +148,17 @@ module _ (source target low high : ℕ) where
       (λ h. ⊎_elim (λ g. absurd (let l : short m < short k = c.first k d.admissible (ltb-true _ _ g) in omega arith)) (λ g. let a = ltb-false m k h in let b = ltb-false k m g in omega arith) (tested (ltb k m)))
       (tested (ltb m k))
 
-  found : (m : ℕ) → Chosen source target low high m → (f : FoundM) → chosen ≡ f → f ≡ M m
-  found m c Nothing e = absurd (chosen_nothing e m c.admissible)
-  found m c (M k) e = ap M (chosen_unique k m (chosen_some k e) c)
+  found : (m : ℕ) → Chosen source target low high m → (f : Option ℕ) → chosen ≡ f → f ≡ Some m
+  found m c None e = absurd (chosen_nothing e m c.admissible)
+  found m c (Some k) e = ap Some (chosen_unique k m (chosen_some k e) c)
 
   -- the choice is what is chosen, and where no M can be, nothing is
-  pub chosen_is : (m : ℕ) → Chosen source target low high m → chosen ≡ M m
+  pub chosen_is : (m : ℕ) → Chosen source target low high m → chosen ≡ Some m
   chosen_is m c = found m c chosen refl
 
-  none : ((k : ℕ) → Admissible source low high k → ⊥) → (f : FoundM) → chosen ≡ f → f ≡ Nothing
-  none h Nothing e = refl
-  none h (M k) e = absurd (h k (chosen_some k e).admissible)
+  none : ((k : ℕ) → Admissible source low high k → ⊥) → (f : Option ℕ) → chosen ≡ f → f ≡ None
+  none h None e = refl
+  none h (Some k) e = absurd (h k (chosen_some k e).admissible)
 
-  pub nothing_is : ((k : ℕ) → Admissible source low high k → ⊥) → chosen ≡ Nothing
+  pub nothing_is : ((k : ℕ) → Admissible source low high k → ⊥) → chosen ≡ None
   nothing_is h = none h chosen refl

@@ -1,15 +1,14 @@
 -- Where each part of a request stands in its bytes, on one request of 106 bytes written out in full: hertz 1 to 19 in the order of document 01,
 -- and a last one of four bytes that differ.
+use Rattle.std.specs.Prelude.{Some, Ok}
 use mathlib.Core.Path.{◌≡◌, refl}
 use mathlib.Core.List.{List, [], ◌∷◌}
 use mathlib.Core.Bool.{true}
 use Prim.Native.Nat.{ℕ}
-use Rattle.types.specs.declared.Hertz.TheVariants.{Hz}
 use Rattle.types.specs.declared.Strategy.TheVariants.{Integer, Fractional}
 use Rattle.types.specs.declared.Mco1Source.{Mco1Source}
 use Rattle.types.specs.declared.Mco2Source.{Mco2Source}
 use Rattle.types.specs.declared.Request.{Request}
-use Rattle.rules.specs.Document01.Result.{ok}
 use Rattle.rules.specs.Document01.Bytes.{request_part, request_bytes}
 use Rattle.rules.proofs.Computes.{by_rules}
 
@@ -27,27 +26,27 @@ bytes =
 
 abbrev request : Request
 request = record {
-  hse = Hz 1;
-  lse = Hz 2;
-  audio = Hz 3;
-  system = Hz 4;
-  peripheral = Hz 5;
-  ahb = Hz 6;
-  apb1 = Hz 7;
-  apb2 = Hz 8;
-  apb3 = Hz 9;
+  hse = Some 1;
+  lse = Some 2;
+  audio = Some 3;
+  system = Some 4;
+  peripheral = Some 5;
+  ahb = Some 6;
+  apb1 = Some 7;
+  apb2 = Some 8;
+  apb3 = Some 9;
   bypass = true;
   mco1source = Mco1Source.Hsi48;
-  mco1 = Hz 10;
+  mco1 = Some 10;
   mco2source = Mco2Source.Lsi;
-  mco2 = Hz 11;
+  mco2 = Some 11;
   plls =
-      record { strategy = Integer; p = Hz 12; q = Hz 13; r = Hz 14 }
-      ∷ record { strategy = Fractional; p = Hz 15; q = Hz 16; r = Hz 17 }
-      ∷ record { strategy = Integer; p = Hz 18; q = Hz 19; r = Hz 387_323_156 } ∷ [];
+      record { strategy = Integer; p = Some 12; q = Some 13; r = Some 14 }
+      ∷ record { strategy = Fractional; p = Some 15; q = Some 16; r = Some 17 }
+      ∷ record { strategy = Integer; p = Some 18; q = Some 19; r = Some 387_323_156 } ∷ [];
 }
 
-pub reads_in_order : request_part true bytes ≡ ok (record { value = request; rest = [] })
+pub reads_in_order : request_part true bytes ≡ Ok (record { value = request; rest = [] })
 unfolding by_rules
 reads_in_order = refl
 

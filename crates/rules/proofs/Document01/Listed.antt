@@ -1,10 +1,10 @@
 -- The list of refusals (document 01, Who can cause which refusal): every refusal is in it, with a number that no other has; the numbers rise; and
 -- they are those that some call answers, and those that none does. No refusal is named here.
+use Rattle.std.specs.Prelude.{Some}
 use mathlib.Core.Path.{◌≡◌, refl, sym, ap, ◌∙◌}
 use mathlib.Core.Bool.{Bool, true, false, cond, ◌&&◌, ◌||◌}
 use mathlib.Core.List.{List, [], ◌∷◌, Memᴰ}
 use mathlib.Core.Logic.{inl, inr}
-use mathlib.Core.Option.{some}
 use Prim.Native.Nat.{ℕ}
 use native.Mathlib.Omega.{arith}
 use lib.Dec.{eqb, ltb}
@@ -40,22 +40,22 @@ pub by_each : {A : Type 0} (f g : Refusal → A) → in_turn parts (λ c. f (mak
 by_each f g e n = sym (ap f (eta n)) ∙ same_in_turn parts tt (λ c. f (make c)) (λ c. g (make c)) e (as_values n) ∙ ap g (eta n)
 
 -- ---- every refusal is in the list, and is the one with its number
-pub each_found : (n : Refusal) → refusal_of (number_of n) ≡ some n
-each_found = by_each (λ n. refusal_of (number_of n)) some refl
+pub each_found : (n : Refusal) → refusal_of (number_of n) ≡ Some n
+each_found = by_each (λ n. refusal_of (number_of n)) Some refl
 
 -- what was found is in the list, and has the number
 module _ (k : ℕ) (n : Refusal) where
-  first_in : (ms : List Refusal) → first_with k ms ≡ some n → Memᴰ n ms × (k ≡ number_of n)
+  first_in : (ms : List Refusal) → first_with k ms ≡ Some n → Memᴰ n ms × (k ≡ number_of n)
   first_in [] h = absurd (let z : ◌≡◌ {A = ℕ} 0 1 = cc in omega arith)
   first_in (m ∷ ms) h =
       by_test (eqb k (number_of m))
-      (λ t. let s : first_with k (m ∷ ms) ≡ some m = rw t in let e : n ≡ m = cc in (Memᴰ.head e, eqb-true k (number_of m) t ∙ ap number_of (sym e)))
+      (λ t. let s : first_with k (m ∷ ms) ≡ Some m = rw t in let e : n ≡ m = cc in (Memᴰ.head e, eqb-true k (number_of m) t ∙ ap number_of (sym e)))
       (λ f. let s : first_with k (m ∷ ms) ≡ first_with k ms = rw f in let later = first_in ms (sym s ∙ h) in (Memᴰ.tail later.0, later.1))
 
 pub each_listed : (n : Refusal) → Memᴰ n refusals
 each_listed n = (first_in (number_of n) n refusals (each_found n)).0
 
-pub found_number : (k : ℕ) (n : Refusal) → refusal_of k ≡ some n → k ≡ number_of n
+pub found_number : (k : ℕ) (n : Refusal) → refusal_of k ≡ Some n → k ≡ number_of n
 found_number k n h = (first_in k n refusals h).1
 
 -- ---- the numbers rise, from above 0, which is a plan's, and so do those of each call

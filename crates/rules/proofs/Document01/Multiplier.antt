@@ -1,4 +1,5 @@
 -- N: from 75 to 420 with the medium VCO and from 8 to 280 with the wide one, by the ranges of target and reference. So refusal 12 fits nothing.
+use Rattle.std.specs.Prelude.{Option, Some, None, Result, Ok, Err}
 use mathlib.Core.Path.{◌≡◌, refl, subst}
 use mathlib.Core.Logic.{◌⊎◌, inl, inr}
 use mathlib.Core.Bool.{Bool, true, ◌&&◌}
@@ -6,14 +7,11 @@ use Prim.Native.Nat.{ℕ, ◌/◌, ◌≤◌}
 use native.Mathlib.Omega.{arith}
 use lib.Dec.{leb, ltb}
 use borrow.Author.Tests.{leb-true, le-leb}
+use Rattle.types.specs.declared.Refusal.{Refusal}
 use Rattle.types.specs.declared.PllRequest.{PllRequest}
 use Rattle.types.specs.declared.PllSettings.{PllSettings}
-use Rattle.types.specs.declared.Pll.{Pll}
-use Rattle.types.specs.declared.Pll.TheVariants.{Idle, Runs}
-use Rattle.types.specs.declared.FoundM.{FoundM}
-use Rattle.types.specs.declared.FoundM.TheVariants.{Nothing, M}
 use Rattle.types.specs.declared.Refusal.TheVariants.{NOutside}
-use Rattle.rules.specs.Document01.Result.{Result, refused, ok, ◌>>=◌, require}
+use Rattle.rules.specs.Document01.Result.{◌>>=◌, require}
 use Rattle.rules.specs.Document01.ChoiceOfM.{chosen_m, Admissible}
 use Rattle.rules.specs.Document01.OnePll.{wanted, counted_outputs, largest, Range, medium, wide, range_of, admissible, first_of, fraction_of, divider_p, allowed_p, spanned, range_for, target_for, divided_by, settled, runs, running, pll_of}
 use Rattle.laws.proofs.Tests.{by_test, and_left, and_right}
@@ -50,9 +48,9 @@ n_tested g (inr e) n h = let b = (subst (λ (x : Range). NRange x.vcosel n) e h)
 abbrev pub NSettings : PllSettings → Type 0
 NSettings s = NRange s.vcosel s.n
 
-abbrev pub NPll : Pll → Type 0
-NPll Idle = Unit {0}
-NPll (Runs s) = NSettings s
+abbrev pub NPll : Option PllSettings → Type 0
+NPll None = Unit {0}
+NPll (Some s) = NSettings s
 
 module _ (odd : Bool) (source : ℕ) (a : PllRequest) where
   abbrev g : Range
@@ -62,7 +60,7 @@ module _ (odd : Bool) (source : ℕ) (a : PllRequest) where
   target = target_for odd a
 
   -- once 10 and 11 do not fit
-  pub n_known : leb g.start target && leb target g.end ≡ true → (m : ℕ) → chosen_m source target g.low g.high ≡ M m → NRange g.vcosel (target / (source / m))
+  pub n_known : leb g.start target && leb target g.end ≡ true → (m : ℕ) → chosen_m source target g.low g.high ≡ Some m → NRange g.vcosel (target / (source / m))
   n_known t m e =
       n_range g (range_kind (largest (counted_outputs odd a))) source target m (chosen_some source target g.low g.high m e).admissible
       (leb-true g.start target (and_left (leb g.start target) (leb target g.end) t))
@@ -75,9 +73,9 @@ module _ (odd : Bool) (source : ℕ) (a : PllRequest) where
       (holds_then NSettings (fraction_of a.strategy (source / m) (target / (source / m)) (target / first_of a) (first_of a)) _
       (λ f. holds_next NSettings (allowed_p odd (divider_p target a.p)) _ h))
 
-  chosen_n : leb g.start target && leb target g.end ≡ true → (f : FoundM) → chosen_m source target g.low g.high ≡ f → Holds NSettings (admissible f >>= λ m. settled odd a g target m (source / m) (target / (source / m)))
-  chosen_n t Nothing e = tt
-  chosen_n t (M m) e = settled_n m (n_known t m e)
+  chosen_n : leb g.start target && leb target g.end ≡ true → (f : Option ℕ) → chosen_m source target g.low g.high ≡ f → Holds NSettings (admissible f >>= λ m. settled odd a g target m (source / m) (target / (source / m)))
+  chosen_n t None e = tt
+  chosen_n t (Some m) e = settled_n m (n_known t m e)
 
   divided_n : Holds NSettings (divided_by source g target >>= λ m. settled odd a g target m (source / m) (target / (source / m)))
   unfolding divided_by
@@ -90,9 +88,9 @@ module _ (odd : Bool) (source : ℕ) (a : PllRequest) where
   unfolding runs
   runs_n = holds_next NSettings (spanned odd a) _ divided_n
 
-running_n : (x : Result PllSettings) → Holds NSettings x → Holds NPll (running x)
-running_n (refused n) h = tt
-running_n (ok s) h = h
+running_n : (x : Result PllSettings Refusal) → Holds NSettings x → Holds NPll (running x)
+running_n (Err n) h = tt
+running_n (Ok s) h = h
 
 pub pll_n : (odd : Bool) (source : ℕ) (a : PllRequest) → Holds NPll (pll_of odd source a)
 unfolding pll_of

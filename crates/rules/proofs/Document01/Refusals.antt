@@ -1,14 +1,11 @@
 -- Which refusals there are: each has its own number, and which numbers a typed request can get.
+use Rattle.std.specs.Prelude.{Option, Some, None, Result, Ok, Err, is_some}
 use mathlib.Core.Path.{◌≡◌, refl, sym, ap, ◌∙◌, subst}
 use mathlib.Core.Bool.{Bool, true, false, not, ◌&&◌, ◌||◌}
 use mathlib.Core.List.{List, [], ◌∷◌}
-use mathlib.Core.Option.{some}
 use Prim.Native.Nat.{ℕ, ◌/◌, ◌%◌}
-use native.Mathlib.Omega.{arith}
 use lib.Dec.{leb, ltb, eqb}
 use borrow.Author.Tests.{eqb-true}
-use Rattle.types.specs.declared.Hertz.{Hertz}
-use Rattle.types.specs.declared.Hertz.TheVariants.{Unset, Hz}
 use Rattle.types.specs.declared.Strategy.{Strategy}
 use Rattle.types.specs.declared.Strategy.TheVariants.{Integer, Fractional}
 use Rattle.types.specs.declared.Mco1Source.{Mco1Source}
@@ -17,36 +14,29 @@ use Rattle.types.specs.declared.PllRequest.{PllRequest}
 use Rattle.types.specs.declared.PllSettings.{PllSettings}
 use Rattle.types.specs.declared.Request.{Request}
 use Rattle.types.specs.declared.ChipState.{ChipState}
-use Rattle.types.specs.declared.Fracn.{Fracn}
-use Rattle.types.specs.declared.Fracn.TheVariants.{Value, OutOfRange}
-use Rattle.types.specs.declared.FoundM.{FoundM}
-use Rattle.types.specs.declared.FoundM.TheVariants.{Nothing, M}
 use Rattle.types.specs.declared.Refusal.{Refusal}
 use Rattle.types.specs.declared.Refusal.TheVariants.{AboveLimit, McoHseUnstated, Pll1PUnlikeSystem, SourceZero, OutputZero, OutputsTooFarApart, OutputTooHigh, PDividerAbove128, PDividerOdd, HsiOff, HsidivNot2, BusZero, AhbZero, McoZero, McoRatio}
-use Rattle.types.specs.declared.Plan.{Plan}
-use Rattle.types.specs.declared.Answer.TheVariants.{Refused}
 use Rattle.ieee754.specs.Steps.{float, fracn_of}
 use Rattle.rules.specs.Manual.Tree.{among}
 use Rattle.rules.specs.Document01.Chip.{divisor_of, odd_at, has_pll}
-use Rattle.rules.specs.Document01.Result.{Result, refused, ok, ◌>>=◌, ◌>>◌, require}
+use Rattle.rules.specs.Document01.Result.{◌>>=◌, ◌>>◌, require}
 use Rattle.rules.specs.Document01.Refusals.{number_of, refusal_of, typed_numbers}
-use Rattle.rules.specs.Document01.Hertz.{is_set, not_zero, ratio_of}
+use Rattle.rules.specs.Document01.Hertz.{not_zero, ratio_of}
 use Rattle.rules.specs.Document01.Request.{within, limited, from_hse1, from_hse2, stated, pll1_asked, source_of, system_of, needs_pll1, like, system_fits, configured, asked_of}
 use Rattle.rules.specs.Document01.ChoiceOfM.{chosen_m}
 use Rattle.rules.specs.Document01.OnePll.{wanted, none_zero, counted_outputs, least, largest, Range, admissible, first_of, taken, fraction_of, divider_p, allowed_p, spanned, range_for, target_for, divided_by, settings_of, settled, runs, running, pll_of, p_clock, q_clock, pll_from}
 use Rattle.rules.specs.Document01.Buses.{hpre_for, ppre_for, ahb_of, apb_of}
 use Rattle.rules.specs.Document01.Mco.{planned, mco1_input, mco2_input, mco_of}
-use Rattle.rules.specs.Document01.Plan.{plls_of, hsi_ready, system_from, buses_of, mcos_of, chosen_plan, answered, answer_to, planned_at}
+use Rattle.rules.specs.Document01.Plan.{plls_of, hsi_ready, system_from, buses_of, mcos_of, chosen_plan, planned_at}
 use Rattle.laws.proofs.Tests.{by_test, never, and_left, and_right}
 use Rattle.rules.proofs.Document01.Listed.{each_found}
 use Rattle.rules.proofs.Document01.Results.{Only, only_weaker, only_require, only_then, only_next, only_tested}
 use Rattle.rules.proofs.Document01.Multiplier.{range_kind, n_tested, n_known}
 use Rattle.types.specs.declared.Mco.{Mco}
-use Rattle.types.specs.declared.PllPlan.{PllPlan}
 
 -- ---- no two refusals have the same number
 pub numbers_differ : (m n : Refusal) → number_of m ≡ number_of n → m ≡ n
-numbers_differ m n e = let s : some m ≡ some n = sym (each_found m) ∙ ap refusal_of e ∙ each_found n in cc
+numbers_differ m n e = let s : Some m ≡ Some n = sym (each_found m) ∙ ap refusal_of e ∙ each_found n in cc
 
 -- ---- a typed request is refused with one of its numbers
 abbrev pub Typed : Refusal → Type 0
@@ -83,9 +73,9 @@ among_more (x ∷ xs) ys h n t =
 other_typed : (n : Refusal) → Other n → Typed n
 other_typed n = among_more others typed_numbers refl (number_of n)
 
-taken_only : (v : Fracn) → Only Other (taken v)
-taken_only (Value f) = tt
-taken_only OutOfRange = refl
+taken_only : (v : Option ℕ) → Only Other (taken v)
+taken_only (Some f) = tt
+taken_only None = refl
 
 pub fraction_only : (s : Strategy) (ref n d o : ℕ) → Only Other (fraction_of s ref n d o)
 fraction_only Integer ref n d o = tt
@@ -116,12 +106,12 @@ module _ (odd : Bool) (source : ℕ) (a : PllRequest) where
       rw t
       (only_then Typed (fraction_of a.strategy (source / m) (target / (source / m)) (target / first_of a) (first_of a)) _
       (only_weaker Other Typed (fraction_of a.strategy (source / m) (target / (source / m)) (target / first_of a) (first_of a)) other_typed (fraction_only a.strategy (source / m) (target / (source / m)) (target / first_of a) (first_of a)))
-      (λ f. only_next Typed (allowed_p odd (divider_p target a.p)) (ok (settings_of a g target m (source / m) (target / (source / m)) f)) (allowed_only odd (divider_p target a.p)) tt))
+      (λ f. only_next Typed (allowed_p odd (divider_p target a.p)) (Ok (settings_of a g target m (source / m) (target / (source / m)) f)) (allowed_only odd (divider_p target a.p)) tt))
 
-  chosen_only : leb g.start target && leb target g.end ≡ true → (f : FoundM) → chosen_m source target g.low g.high ≡ f
+  chosen_only : leb g.start target && leb target g.end ≡ true → (f : Option ℕ) → chosen_m source target g.low g.high ≡ f
       → Only Typed (admissible f >>= λ m. settled odd a g target m (source / m) (target / (source / m)))
-  chosen_only t Nothing e = refl
-  chosen_only t (M m) e = settled_only m (n_tested g (range_kind (largest (counted_outputs odd a))) _ (n_known odd source a t m e))
+  chosen_only t None e = refl
+  chosen_only t (Some m) e = settled_only m (n_tested g (range_kind (largest (counted_outputs odd a))) _ (n_known odd source a t m e))
 
   divided_only : Only Typed (divided_by source g target >>= λ m. settled odd a g target m (source / m) (target / (source / m)))
   unfolding divided_by
@@ -134,9 +124,9 @@ module _ (odd : Bool) (source : ℕ) (a : PllRequest) where
   unfolding runs
   runs_only = only_next Typed (spanned odd a) _ (only_weaker Other Typed (spanned odd a) other_typed (spanned_only odd a)) divided_only
 
-running_only : (x : Result PllSettings) → Only Typed x → Only Typed (running x)
-running_only (refused n) h = h
-running_only (ok s) h = tt
+running_only : (x : Result PllSettings Refusal) → Only Typed x → Only Typed (running x)
+running_only (Err n) h = h
+running_only (Ok s) h = tt
 
 pll_only : (odd : Bool) (source : ℕ) (a : PllRequest) → Only Typed (pll_of odd source a)
 unfolding pll_of
@@ -149,7 +139,7 @@ configured_only : (q : Request) → Only Typed (configured q)
 unfolding configured
 configured_only q =
     only_next Typed (limited q) _ (only_require Typed (within q.system && (within q.ahb && (within q.apb1 && (within q.apb2 && within q.apb3)))) AboveLimit refl)
-    (only_next Typed (stated q) _ (only_require Typed (is_set q.hse || not (from_hse1 q.mco1source || from_hse2 q.mco2source)) McoHseUnstated refl)
+    (only_next Typed (stated q) _ (only_require Typed (is_some q.hse || not (from_hse1 q.mco1source || from_hse2 q.mco2source)) McoHseUnstated refl)
     (only_next Typed (system_fits q) _ (only_require Typed (not (needs_pll1 q) || like (pll1_asked q).p (system_of q)) Pll1PUnlikeSystem refl)
     (only_require Typed (not (eqb (source_of q) 0)) SourceZero refl)))
 
@@ -161,16 +151,16 @@ plls_only q c =
     (λ x. only_then Typed (planned_at q c 1) _ (planned_at_only q c 1)
     (λ y. only_then Typed (planned_at q c 2) _ (planned_at_only q c 2) (λ z. tt))))
 
-ahb_only : (system : ℕ) (h : Hertz) → Only Other (ahb_of system h)
+ahb_only : (system : ℕ) (h : Option ℕ) → Only Other (ahb_of system h)
 unfolding ahb_of
 ahb_only system h =
     let hz : ℕ = system / hpre_for system h in
-    only_tested Other (not_zero h) BusZero (require (not (eqb hz 0)) AhbZero >> ok (record { pre = hpre_for system h; clock = hz })) refl
-    (only_tested Other (not (eqb hz 0)) AhbZero (ok (record { pre = hpre_for system h; clock = hz })) refl tt)
+    only_tested Other (not_zero h) BusZero (require (not (eqb hz 0)) AhbZero >> Ok (record { pre = hpre_for system h; clock = hz })) refl
+    (only_tested Other (not (eqb hz 0)) AhbZero (Ok (record { pre = hpre_for system h; clock = hz })) refl tt)
 
-apb_only : (ahb : ℕ) (h : Hertz) → Only Other (apb_of ahb h)
+apb_only : (ahb : ℕ) (h : Option ℕ) → Only Other (apb_of ahb h)
 unfolding apb_of
-apb_only ahb h = only_tested Other (not_zero h) BusZero (ok (record { pre = ppre_for ahb h; clock = ahb / ppre_for ahb h })) refl tt
+apb_only ahb h = only_tested Other (not_zero h) BusZero (Ok (record { pre = ppre_for ahb h; clock = ahb / ppre_for ahb h })) refl tt
 
 pub buses_only : (q : Request) (system : ℕ) → Only Other (buses_of q system)
 unfolding buses_of
@@ -180,11 +170,11 @@ buses_only q system =
     (λ x. only_then Other (apb_of a.clock q.apb2) _ (apb_only a.clock q.apb2)
     (λ y. only_then Other (apb_of a.clock q.apb3) _ (apb_only a.clock q.apb3) (λ z. tt))))
 
-planned_only : (h : Hertz) → Only Other (planned h)
-planned_only Unset = refl
-planned_only (Hz h) = tt
+planned_only : (h : Option ℕ) → Only Other (planned h)
+planned_only None = refl
+planned_only (Some h) = tt
 
-mco1_only : (s : Mco1Source) (hse q : Hertz) → Only Other (mco1_input s hse q)
+mco1_only : (s : Mco1Source) (hse q : Option ℕ) → Only Other (mco1_input s hse q)
 unfolding mco1_input
 mco1_only Mco1Source.Hsi hse q = tt
 mco1_only Mco1Source.Lse hse q = refl
@@ -192,7 +182,7 @@ mco1_only Mco1Source.Hse hse q = tt
 mco1_only Mco1Source.Pll1Q hse q = planned_only q
 mco1_only Mco1Source.Hsi48 hse q = tt
 
-mco2_only : (s : Mco2Source) (system : ℕ) (hse p1 p2 : Hertz) → Only Other (mco2_input s system hse p1 p2)
+mco2_only : (s : Mco2Source) (system : ℕ) (hse p1 p2 : Option ℕ) → Only Other (mco2_input s system hse p1 p2)
 unfolding mco2_input
 mco2_only Mco2Source.Sysclk system hse p1 p2 = tt
 mco2_only Mco2Source.Pll2P system hse p1 p2 = planned_only p2
@@ -201,16 +191,16 @@ mco2_only Mco2Source.Pll1P system hse p1 p2 = planned_only p1
 mco2_only Mco2Source.Csi system hse p1 p2 = tt
 mco2_only Mco2Source.Lsi system hse p1 p2 = tt
 
-mco_only : (clock : ℕ) (h : Hertz) → Only Other (mco_of clock h)
+mco_only : (clock : ℕ) (h : Option ℕ) → Only Other (mco_of clock h)
 unfolding mco_of
-mco_only clock Unset = tt
-mco_only clock (Hz h) =
+mco_only clock None = tt
+mco_only clock (Some h) =
     let ratio : ℕ = ratio_of clock h in
     let fits : Bool = leb 1 ratio && leb ratio 15 in
-    let made : Result Mco = ok (record { pre = ratio; clock = Hz (clock / ratio) }) in
+    let made : Result Mco Refusal = Ok (record { pre = ratio; clock = Some (clock / ratio) }) in
     only_tested Other (not (eqb h 0)) McoZero (require fits McoRatio >> made) refl (only_tested Other fits McoRatio made refl tt)
 
-pub mcos_only : (q : Request) (l : List PllPlan) (system : ℕ) → Only Other (mcos_of q l system)
+pub mcos_only : (q : Request) (l : List (Option PllSettings)) (system : ℕ) → Only Other (mcos_of q l system)
 unfolding mcos_of
 mcos_only q l system =
     only_then Other (mco1_input q.mco1source q.hse (q_clock (pll_from l 0))) _ (mco1_only q.mco1source q.hse (q_clock (pll_from l 0)))
@@ -229,10 +219,5 @@ chosen_plan_only q c =
     (only_then Typed (buses_of q (system_from q l)) _ (only_weaker Other Typed (buses_of q (system_from q l)) other_typed (buses_only q (system_from q l)))
     (λ b. only_then Typed (mcos_of q l (system_from q l)) _ (only_weaker Other Typed (mcos_of q l (system_from q l)) other_typed (mcos_only q l (system_from q l))) (λ m. tt))))
 
-pub typed_numbers_is : (q : Request) (c : ChipState) (n : Refusal) → (answer_to q c).answer ≡ Refused n → Typed n
-unfolding answer_to
-typed_numbers_is q c n e = go (chosen_plan q c) (chosen_plan_only q c) e
-  where
-    go : (x : Result Plan) → Only Typed x → (answered x).answer ≡ Refused n → Typed n
-    go (refused m) h e = let s : m ≡ n = cc in subst Typed s h
-    go (ok p) h e = absurd (let z : ◌≡◌ {A = ℕ} 0 1 = cc in omega arith)
+pub typed_numbers_is : (q : Request) (c : ChipState) (n : Refusal) → chosen_plan q c ≡ Err n → Typed n
+typed_numbers_is q c n e = subst (Only Typed) e (chosen_plan_only q c)

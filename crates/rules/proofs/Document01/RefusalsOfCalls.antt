@@ -1,24 +1,22 @@
 -- Which refusals the calls answer: the planner's `plan_numbers`, the bank call `bank_numbers`, a walk over a plan's list `walk_numbers`.
+use Rattle.std.specs.Prelude.{Option, Result, Ok, Err}
 use mathlib.Core.Path.{◌≡◌, refl, subst}
 use mathlib.Core.Bool.{Bool, true, false, cond, ◌&&◌, ◌||◌}
 use mathlib.Core.List.{List, [], ◌∷◌}
 use Prim.Native.Nat.{ℕ, zero, suc}
-use native.Mathlib.Omega.{arith}
 use lib.Dec.{eqb, ltb}
-use Rattle.types.specs.declared.Hertz.{Hertz}
 use Rattle.types.specs.declared.Chip.{Chip}
 use Rattle.types.specs.declared.Refusal.{Refusal}
 use Rattle.types.specs.declared.Refusal.TheVariants.{OutsideCodes, BankLength, CsiDown}
 use Rattle.types.specs.declared.Plan.{Plan}
 use Rattle.types.specs.declared.Entry.{Entry}
-use Rattle.types.specs.declared.Answer.TheVariants.{Refused}
 use Rattle.rules.specs.Document01.Refusals.{number_of, typed_numbers, plan_numbers, bank_numbers, walk_numbers}
-use Rattle.rules.specs.Document01.Result.{Result, refused, ok, ◌>>=◌, ◌>>◌, require}
+use Rattle.rules.specs.Document01.Result.{◌>>=◌, ◌>>◌, require}
 use Rattle.rules.specs.Document01.Chip.{is_bit, is_hsidiv, chip_of, permission}
 use Rattle.rules.specs.Document01.Walk.{Stand, before, ended, passes, is_check, held, stepped_of}
 use Rattle.rules.specs.Stated.Walks.{Pair, after}
 use Rattle.rules.specs.Document01.Bytes.{Read, Reader, fits, byte, end, code, u32le, set_to, hertz, flag, mco1_source, mco2_source, strategy, pll_part, third_part, request_part}
-use Rattle.rules.specs.Document01.Plan.{chosen_plan, answered, request_of, plan_of, bank_plan_of}
+use Rattle.rules.specs.Document01.Plan.{chosen_plan, request_of, plan_of, bank_plan_of}
 use Rattle.rules.specs.Manual.Tree.{among}
 use Rattle.rules.proofs.Document01.Results.{Only, only_require, only_then, only_next}
 use Rattle.rules.proofs.Document01.Refusals.{Typed, among_more, chosen_plan_only}
@@ -96,7 +94,7 @@ module _ (P : Refusal → Type 0) (one : P OutsideCodes) where
   third_only false bytes = tt
 
   -- a reader of hertz, then whatever follows
-  after_hertz : {B : Type 0} (bytes : List ℕ) (k : Read Hertz → Result B) → ((x : Read Hertz) → Only P (k x)) → Only P (hertz bytes >>= k)
+  after_hertz : {B : Type 0} (bytes : List ℕ) (k : Read (Option ℕ) → Result B Refusal) → ((x : Read (Option ℕ)) → Only P (k x)) → Only P (hertz bytes >>= k)
   after_hertz bytes k f = only_then P (hertz bytes) k (hertz_only bytes) f
 
   pub request_only : (three : Bool) → Refuses (request_part three)
@@ -118,7 +116,7 @@ module _ (P : Refusal → Type 0) (one : P OutsideCodes) where
   unfolding request_of
   asked_only bytes chip = only_then P (chip_of chip) _ (chip_only chip) (λ c. only_then P (request_part c.three bytes) _ (request_only c.three bytes) (λ q. tt))
 
-pub outside_codes : (bytes : List ℕ) (chip : Chip) (n : Refusal) → request_of bytes chip ≡ refused n → n ≡ OutsideCodes
+pub outside_codes : (bytes : List ℕ) (chip : Chip) (n : Refusal) → request_of bytes chip ≡ Err n → n ≡ OutsideCodes
 outside_codes bytes chip n e = subst (Only (λ m. m ≡ OutsideCodes)) e (asked_only (λ m. m ≡ OutsideCodes) refl bytes chip)
 
 -- ---- the calls
@@ -128,20 +126,19 @@ ByPlan n = among plan_numbers (number_of n) ≡ true
 abbrev ByBank : Refusal → Type 0
 ByBank n = among bank_numbers (number_of n) ≡ true
 
-more : (P Q : Refusal → Type 0) → ((n : Refusal) → P n → Q n) → {A : Type 0} (x : Result A) → Only P x → Only Q x
-more P Q f (refused n) h = f n h
-more P Q f (ok a) h = tt
+more : (P Q : Refusal → Type 0) → ((n : Refusal) → P n → Q n) → {A : Type 0} (x : Result A Refusal) → Only P x → Only Q x
+more P Q f (Err n) h = f n h
+more P Q f (Ok a) h = tt
 
-read_off : (P : Refusal → Type 0) (x : Result Plan) (n : Refusal) → Only P x → (answered x).answer ≡ Refused n → P n
-read_off P (refused m) n h e = let s : m ≡ n = cc in subst P s h
-read_off P (ok p) n h e = absurd (let z : ◌≡◌ {A = ℕ} 0 1 = cc in omega arith)
+read_off : (P : Refusal → Type 0) (x : Result Plan Refusal) (n : Refusal) → Only P x → x ≡ Err n → P n
+read_off P x n h e = subst (Only P) e h
 
 plan_only : (bytes : List ℕ) (chip : Chip) → Only ByPlan (request_of bytes chip >>= λ a. chosen_plan a.request a.chip)
 plan_only bytes chip =
     only_then ByPlan (request_of bytes chip) (λ a. chosen_plan a.request a.chip) (asked_only ByPlan refl bytes chip)
     (λ a. more Typed ByPlan (λ m. among_more typed_numbers plan_numbers refl (number_of m)) (chosen_plan a.request a.chip) (chosen_plan_only a.request a.chip))
 
-pub plan_numbers_is : (bytes : List ℕ) (chip : Chip) (n : Refusal) → (plan_of bytes chip).answer ≡ Refused n → ByPlan n
+pub plan_numbers_is : (bytes : List ℕ) (chip : Chip) (n : Refusal) → plan_of bytes chip ≡ Err n → ByPlan n
 unfolding plan_of
 plan_numbers_is bytes chip n e = read_off ByPlan (request_of bytes chip >>= λ a. chosen_plan a.request a.chip) n (plan_only bytes chip) e
 
@@ -151,7 +148,7 @@ bank_only bytes chip words =
     (λ a. only_next ByBank (require (eqb words 82) BankLength) (chosen_plan a.request a.chip) (only_require ByBank (eqb words 82) BankLength refl)
     (more Typed ByBank (λ m. among_more typed_numbers bank_numbers refl (number_of m)) (chosen_plan a.request a.chip) (chosen_plan_only a.request a.chip)))
 
-pub bank_numbers_is : (bytes : List ℕ) (chip : Chip) (words : ℕ) (n : Refusal) → (bank_plan_of bytes chip words).answer ≡ Refused n → ByBank n
+pub bank_numbers_is : (bytes : List ℕ) (chip : Chip) (words : ℕ) (n : Refusal) → bank_plan_of bytes chip words ≡ Err n → ByBank n
 unfolding bank_plan_of
 bank_numbers_is bytes chip words n e = read_off ByBank (request_of bytes chip >>= λ a. require (eqb words 82) BankLength >> chosen_plan a.request a.chip) n (bank_only bytes chip words) e
 

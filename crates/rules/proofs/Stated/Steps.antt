@@ -1,8 +1,8 @@
 -- The tables of document 01, One call and Flash, at the ends of their rows, and the sources' codes of docs/CODES.md, in numbers.
+use Rattle.std.specs.Prelude.{Some, None}
 use mathlib.Core.Path.{◌≡◌, refl}
 use mathlib.Core.List.{List, [], ◌∷◌, map}
 use Prim.Native.Nat.{ℕ, ◌+◌, ◌*◌}
-use Rattle.types.specs.declared.Hertz.TheVariants.{Unset, Hz}
 use Rattle.types.specs.declared.Scale.{Scale}
 use Rattle.types.specs.declared.Scale.TheVariants.{Scale0, Scale1, Scale2, Scale3}
 use Rattle.types.specs.declared.Mco1Source.{Mco1Source}
@@ -33,8 +33,8 @@ selected s = s.sel ∷ s.clock ∷ []
 
 pub peripherals :
     map selected
-    (peripheral_of Unset (Hz 8_000_000) ∷ peripheral_of (Hz 8_000_000) (Hz 8_000_000) ∷ peripheral_of (Hz 4_000_000) (Hz 4_000_000) ∷ peripheral_of (Hz 4_000_000) (Hz 8_000_000)
-    ∷ peripheral_of (Hz 4_000_000) Unset ∷ peripheral_of (Hz 5_000_000) Unset ∷ peripheral_of (Hz 5_000_000) (Hz 8_000_000) ∷ [])
+    (peripheral_of None (Some 8_000_000) ∷ peripheral_of (Some 8_000_000) (Some 8_000_000) ∷ peripheral_of (Some 4_000_000) (Some 4_000_000) ∷ peripheral_of (Some 4_000_000) (Some 8_000_000)
+    ∷ peripheral_of (Some 4_000_000) None ∷ peripheral_of (Some 5_000_000) None ∷ peripheral_of (Some 5_000_000) (Some 8_000_000) ∷ [])
     ≡ (0 ∷ 32_000_000 ∷ []) ∷ (2 ∷ 8_000_000 ∷ []) ∷ (2 ∷ 4_000_000 ∷ []) ∷ (1 ∷ 4_000_000 ∷ []) ∷ (1 ∷ 4_000_000 ∷ []) ∷ (0 ∷ 32_000_000 ∷ []) ∷ (0 ∷ 32_000_000 ∷ []) ∷ []
 unfolding peripheral_of
 peripherals = refl

@@ -1,20 +1,19 @@
 -- Entries and what a walk shows, as the nine words of docs/CODES.md, in numbers: one of each kind, and no two with the same words.
+use Rattle.std.specs.Prelude.{Option, Result, Ok, Err, Some, None}
 use mathlib.Core.Path.{◌≡◌, refl, sym, ap, ◌∙◌}
 use mathlib.Core.List.{List, [], ◌∷◌, map}
-use mathlib.Core.Option.{Option, none, some}
 use Prim.Native.Nat.{ℕ, zero, suc, ◌+◌, ◌-◌, ◌*◌, ◌≤◌, ◌<◌}
 use native.Mathlib.Numerals.{add-one}
 use native.Mathlib.Omega.{arith}
 use lib.ListN.{length, get_or, replicate}
 use borrow.Author.Tests.{lt-ltb}
+use Rattle.types.specs.declared.Plan.{Plan}
 use Rattle.types.specs.declared.Entry.{Entry}
 use Rattle.types.specs.declared.Entry.TheVariants.{Set, Set2, Set3, Set4, Wait, Wait2, Check, Read}
 use Rattle.types.specs.declared.Refusal.{Refusal}
 use Rattle.types.specs.declared.Refusal.TheVariants.{OutsideCodes, NOutside, CsiDown}
 use Rattle.types.specs.declared.Shown.{Shown}
 use Rattle.types.specs.declared.Shown.TheVariants.{Next, Finished, Stopped}
-use Rattle.types.specs.declared.Answer.TheVariants.{Accepted, Refused}
-use Rattle.types.specs.declared.Planned.{Planned}
 use Rattle.rules.specs.Document01.Entries.{entries_of}
 use Rattle.rules.specs.Document01.Refusals.{refusal_of, code_of}
 use Rattle.rules.specs.Document01.Walk.{before, stepped_of}
@@ -24,7 +23,10 @@ use Rattle.rules.proofs.Document01.Length.{at_most}
 use Rattle.rules.proofs.Stated.Bank.{counted}
 
 -- ---- an answer as one number; of the refusals, those that neither the planner's call nor the bank call answers
-pub coded : map code_of (Accepted ∷ Refused NOutside ∷ Refused CsiDown ∷ []) ≡ 0 ∷ 12 ∷ 24 ∷ []
+abbrev answers : List (Result ℕ Refusal)
+answers = Ok 7 ∷ Err NOutside ∷ Err CsiDown ∷ []
+
+pub coded : map code_of answers ≡ 0 ∷ 12 ∷ 24 ∷ []
 coded = refl
 
 -- ---- the kind, then up to four times the field, from 1, and its value
@@ -53,7 +55,7 @@ unfolding stored_at
 list_of_two = refl
 
 -- no list is longer than there is room for, so no entry is lost
-pub list_has_room : (x : Planned) → 1 + 9 * length (entries_of x) ≤ list_length
+pub list_has_room : (x : Result Plan Refusal) → 1 + 9 * length (entries_of x) ≤ list_length
 list_has_room x = let h = at_most x in omega arith
 
 -- how many things shown are stored, by values to read and words of room: one before any step, one for every two values, nine words each
@@ -79,8 +81,8 @@ wait_back f v zero w = Wait (f - 1) v
 wait_back f v (suc g) w = Wait2 (f - 1) v g w
 
 abbrev stopped_back : Option Refusal → Shown
-stopped_back none = Finished
-stopped_back (some n) = Stopped n
+stopped_back None = Finished
+stopped_back (Some n) = Stopped n
 
 abbrev kind_back : (kind f v g w h x k y : ℕ) → Shown
 kind_back zero f v g w h x k y = Finished

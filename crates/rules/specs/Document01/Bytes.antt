@@ -1,8 +1,7 @@
 -- Document 01, One call, from the top, second paragraph: the byte form of a request. It is read from the front, part by part, and each
 -- part takes its bytes; what does not fit is refusal 1. Codes: docs/CODES.md.
-use Rattle.std.specs.Prelude.{Bool, true, false, cond, ◌&&◌, List, [], ◌∷◌, ◌++◌, ◌≡◌, ℕ, zero, suc, ◌+◌, ◌*◌, ◌/◌, ◌%◌, ◌<◌, eqb, ltb, get_or, length}
-use Rattle.types.specs.declared.Hertz.{Hertz}
-use Rattle.types.specs.declared.Hertz.TheVariants.{Unset, Hz}
+use Rattle.std.specs.Prelude.{Bool, true, false, cond, ◌&&◌, List, [], ◌∷◌, ◌++◌, ◌≡◌, ℕ, zero, suc, ◌+◌, ◌*◌, ◌/◌, ◌%◌, ◌<◌, eqb, ltb, get_or, length, is_none, Option, Some, None, Result, Ok, Err}
+use Rattle.types.specs.declared.Refusal.{Refusal}
 use Rattle.types.specs.declared.Strategy.{Strategy}
 use Rattle.types.specs.declared.Strategy.TheVariants.{Integer, Fractional}
 use Rattle.types.specs.declared.Mco1Source.{Mco1Source}
@@ -11,7 +10,6 @@ use Rattle.types.specs.declared.PllRequest.{PllRequest}
 use Rattle.types.specs.declared.Request.{Request}
 use Rattle.types.specs.declared.Refusal.TheVariants.{OutsideCodes}
 use Rattle.rules.specs.Document01.Result as Result
-use Rattle.rules.specs.Document01.Result.{Result, refused, ok}
 use Rattle.rules.specs.Document01.Request.{pll_at}
 use Rattle.rules.specs.Document01.Mco.{mco1_code, mco2_code}
 
@@ -23,7 +21,7 @@ pub record Read (A : Type 0) : Type 0 where
 
 -- a reader takes bytes from the front
 abbrev pub Reader : Type 0 → Type 0
-Reader A = List ℕ → Result (Read A)
+Reader A = List ℕ → Result (Read A) Refusal
 
 infixl 15 ◌>>=◌
 infixl 15 ◌>>◌
@@ -37,22 +35,22 @@ abbrev pub ◌>>◌ : {A B : Type 0} → Reader A → Reader B → Reader B
 
 -- a value that takes no byte
 abbrev pub return : {A : Type 0} → A → Reader A
-return a = λ bytes. ok (record { value = a; rest = bytes })
+return a = λ bytes. Ok (record { value = a; rest = bytes })
 
 -- a test that holds, or refusal 1
 abbrev pub fits : Bool → Reader (Unit {0})
 fits true = return tt
-fits false = λ bytes. refused OutsideCodes
+fits false = λ bytes. Err OutsideCodes
 
 -- one byte
 unfoldable pub byte : Reader ℕ
-byte [] = refused OutsideCodes
-byte (b ∷ bytes) = ok (record { value = b; rest = bytes })
+byte [] = Err OutsideCodes
+byte (b ∷ bytes) = Ok (record { value = b; rest = bytes })
 
 -- the end: no byte is left
 unfoldable pub end : Reader (Unit {0})
-end [] = ok (record { value = tt; rest = [] })
-end (b ∷ bytes) = refused OutsideCodes
+end [] = Ok (record { value = tt; rest = [] })
+end (b ∷ bytes) = Err OutsideCodes
 
 -- a byte that is one of the codes 0 to n − 1
 unfoldable pub code : (n : ℕ) → Reader ℕ
@@ -71,14 +69,14 @@ u32le = do
   return (b0 + 256 * b1 + 65_536 * b2 + 16_777_216 * b3)
 
 -- all 0 if unset
-abbrev pub set_to : (set : ℕ) → (number : ℕ) → Reader Hertz
+abbrev pub set_to : (set : ℕ) → (number : ℕ) → Reader (Option ℕ)
 set_to zero number = do
   fits (eqb number 0)
-  return Unset
-set_to (suc set) number = return (Hz number)
+  return None
+set_to (suc set) number = return (Some number)
 
 -- each hertz is a byte 0 or 1 (unset, set) and 4 bytes
-unfoldable pub hertz : Reader Hertz
+unfoldable pub hertz : Reader (Option ℕ)
 hertz = do
   set ← code 2
   number ← u32le
@@ -127,12 +125,7 @@ pll_part = do
 
 -- the PLL3 part, which a three-PLL chip must have, and a two-PLL chip must not
 abbrev pub no_part : PllRequest
-no_part = record { strategy = Integer; p = Unset; q = Unset; r = Unset }
-
--- nothing stands there
-abbrev pub is_unset : Hertz → Bool
-is_unset Unset = true
-is_unset (Hz h) = false
+no_part = record { strategy = Integer; p = None; q = None; r = None }
 
 -- strategy 0
 abbrev pub is_integer : Strategy → Bool
@@ -141,7 +134,7 @@ is_integer Fractional = false
 
 -- a part that says nothing
 abbrev pub is_no_part : PllRequest → Bool
-is_no_part a = is_integer a.strategy && (is_unset a.p && (is_unset a.q && is_unset a.r))
+is_no_part a = is_integer a.strategy && (is_none a.p && (is_none a.q && is_none a.r))
 
 -- by the PLL count
 abbrev pub third_part : (three : Bool) → Reader PllRequest
@@ -192,9 +185,9 @@ abbrev pub u32le_bytes : ℕ → List ℕ
 u32le_bytes h = h % 256 ∷ h / 256 % 256 ∷ h / 65_536 % 256 ∷ h / 16_777_216 % 256 ∷ []
 
 -- a hertz
-abbrev pub hertz_bytes : Hertz → List ℕ
-hertz_bytes Unset = 0 ∷ 0 ∷ 0 ∷ 0 ∷ 0 ∷ []
-hertz_bytes (Hz h) = 1 ∷ u32le_bytes h
+abbrev pub hertz_bytes : Option ℕ → List ℕ
+hertz_bytes None = 0 ∷ 0 ∷ 0 ∷ 0 ∷ 0 ∷ []
+hertz_bytes (Some h) = 1 ∷ u32le_bytes h
 
 -- a flag
 abbrev pub flag_byte : Bool → ℕ
@@ -243,9 +236,9 @@ AllBytes [] = Unit {0}
 AllBytes (b ∷ bytes) = (b < 256) × AllBytes bytes
 
 -- ---- what can be written so that it is read again: hertz of 32 bits, three PLL parts, and nothing in the third on a two-PLL chip
-abbrev pub Hertz32 : Hertz → Type 0
-Hertz32 Unset = Unit {0}
-Hertz32 (Hz h) = h < 4_294_967_296
+abbrev pub Hertz32 : Option ℕ → Type 0
+Hertz32 None = Unit {0}
+Hertz32 (Some h) = h < 4_294_967_296
 
 -- a PLL's part
 pub record Pll32 (a : PllRequest) : Type 0 where

@@ -1,13 +1,14 @@
 -- Document 01, refusal 1, for the numbers beside a request: PLL count 2 or 3, odd-P permissions and HSION 0 or 1, voltage scale 0 to 3,
 -- HSIDIV 1, 2, 4, 8. All three permissions are judged on either chip.
-use Rattle.std.specs.Prelude.{Bool, false, cond, ◌&&◌, ◌||◌, [], ◌∷◌, ℕ, eqb, ltb, get_or}
+use Rattle.std.specs.Prelude.{Bool, false, cond, ◌&&◌, ◌||◌, [], ◌∷◌, ℕ, eqb, ltb, get_or, Result, Ok}
+use Rattle.types.specs.declared.Refusal.{Refusal}
 use Rattle.types.specs.declared.Scale.{Scale}
 use Rattle.types.specs.declared.Scale.TheVariants.{Scale0, Scale1, Scale2, Scale3}
 use Rattle.types.specs.declared.Hsidiv.{Hsidiv}
 use Rattle.types.specs.declared.Chip.{Chip}
 use Rattle.types.specs.declared.ChipState.{ChipState}
 use Rattle.types.specs.declared.Refusal.TheVariants.{OutsideCodes}
-use Rattle.rules.specs.Document01.Result.{Result, ok, ◌>>◌, require}
+use Rattle.rules.specs.Document01.Result.{◌>>◌, require}
 
 -- 0 or 1
 abbrev pub is_bit : ℕ → Bool
@@ -45,14 +46,14 @@ abbrev pub has_pll : ChipState → (k : ℕ) → Bool
 has_pll c k = ltb k 2 || (ltb k 3 && c.three)
 
 -- the chip's numbers, as a state
-unfoldable pub chip_of : Chip → Result ChipState
+unfoldable pub chip_of : Chip → Result ChipState Refusal
 chip_of c = do
   require (eqb c.plls 2 || eqb c.plls 3) OutsideCodes
   require (is_bit (permission c 0) && (is_bit (permission c 1) && is_bit (permission c 2))) OutsideCodes
   require (ltb c.scale 4) OutsideCodes
   require (is_bit c.hsion) OutsideCodes
   require (is_hsidiv c.hsidiv) OutsideCodes
-  ok (record {
+  Ok (record {
     three = eqb c.plls 3;
     odd = eqb (permission c 0) 1 ∷ eqb (permission c 1) 1 ∷ eqb (permission c 2) 1 ∷ [];
     scale = scale_of c.scale;

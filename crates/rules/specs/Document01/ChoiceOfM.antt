@@ -1,7 +1,5 @@
 -- Document 01, One PLL, third point: the reference divider M, the smallest of those with the least shortfall.
-use Rattle.std.specs.Prelude.{ℕ, zero, suc, ◌-◌, ◌*◌, ◌/◌, ◌≤◌, ◌<◌, Bool, cond, ◌&&◌, ltb, leb}
-use Rattle.types.specs.declared.FoundM.{FoundM}
-use Rattle.types.specs.declared.FoundM.TheVariants.{Nothing, M}
+use Rattle.std.specs.Prelude.{ℕ, zero, suc, ◌-◌, ◌*◌, ◌/◌, ◌≤◌, ◌<◌, Bool, cond, ◌&&◌, ltb, leb, Option, Some, None}
 
 -- M × low ≤ source ≤ M × high of the reference range. It is source / M exactly that is tested, and not its quotient in whole hertz
 unfoldable pub in_range : (source low high m : ℕ) → Bool
@@ -12,17 +10,17 @@ unfoldable pub shortfall_of : (source target m : ℕ) → ℕ
 shortfall_of source target m = target - source / m * (target / (source / m))
 
 -- of the best so far and an m that comes after it: m where it is in range and falls short by less, else the best so far
-unfoldable pub better_of : (source target low high : ℕ) → FoundM → ℕ → FoundM
-better_of source target low high Nothing m = cond (in_range source low high m) (M m) Nothing
-better_of source target low high (M k) m = cond (in_range source low high m && ltb (shortfall_of source target m) (shortfall_of source target k)) (M m) (M k)
+unfoldable pub better_of : (source target low high : ℕ) → Option ℕ → ℕ → Option ℕ
+better_of source target low high None m = cond (in_range source low high m) (Some m) None
+better_of source target low high (Some k) m = cond (in_range source low high m && ltb (shortfall_of source target m) (shortfall_of source target k)) (Some m) (Some k)
 
 -- the best of 1 to n, and of 1 to 63
-unfoldable pub best_to : (source target low high : ℕ) → ℕ → FoundM
-best_to source target low high zero = Nothing
+unfoldable pub best_to : (source target low high : ℕ) → ℕ → Option ℕ
+best_to source target low high zero = None
 best_to source target low high (suc n) = better_of source target low high (best_to source target low high n) (suc n)
 
 -- chosen: of 1 to 63
-unfoldable pub chosen_m : (source target low high : ℕ) → FoundM
+unfoldable pub chosen_m : (source target low high : ℕ) → Option ℕ
 chosen_m source target low high = best_to source target low high 63
 
 -- ---- what the choice means

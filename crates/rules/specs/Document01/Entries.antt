@@ -1,38 +1,28 @@
 -- Document 01, Register entries: the list of a plan, in order, segment by segment.
-use Rattle.std.specs.Prelude.{List, [], ◌∷◌, ◌++◌, Bool, true, false, cond, ℕ, ◌-◌, ltb}
+use Rattle.std.specs.Prelude.{List, [], ◌∷◌, ◌++◌, Bool, true, false, cond, ℕ, ◌-◌, ltb, Option, Some, None, Result, Ok, Err}
+use Rattle.types.specs.declared.Refusal.{Refusal}
 use Rattle.types.specs.declared.Entry.{Entry}
 use Rattle.types.specs.declared.Entry.TheVariants.{Set, Set2, Set3, Set4, Wait, Wait2, Check}
-use Rattle.types.specs.declared.Hertz.{Hertz}
-use Rattle.types.specs.declared.Hertz.TheVariants.{Unset, Hz}
 use Rattle.types.specs.declared.PllOutput.{PllOutput}
-use Rattle.types.specs.declared.PllOutput.TheVariants.{Off, On}
-use Rattle.types.specs.declared.Fraction.{Fraction}
-use Rattle.types.specs.declared.Fraction.TheVariants.{Whole, Part}
 use Rattle.types.specs.declared.PllSettings.{PllSettings}
-use Rattle.types.specs.declared.Pll.{Pll}
-use Rattle.types.specs.declared.Pll.TheVariants.{Idle, Runs}
-use Rattle.types.specs.declared.PllPlan.{PllPlan}
 use Rattle.types.specs.declared.Waits.{Waits}
 use Rattle.types.specs.declared.Selectors.{Selectors}
 use Rattle.types.specs.declared.Buses.{Buses}
 use Rattle.types.specs.declared.Mcos.{Mcos}
 use Rattle.types.specs.declared.Plan.{Plan}
-use Rattle.types.specs.declared.Answer.{Answer}
-use Rattle.types.specs.declared.Answer.TheVariants.{Accepted, Refused}
-use Rattle.types.specs.declared.Planned.{Planned}
 use Rattle.rules.specs.Document01.OnePll.{pll_from}
 use Rattle.rules.specs.Document01.Fields.{of_pll}
 use Rattle.rules.specs.Document01.Fields
 
 -- for P, Q, R: divider − 1 then enable, or disable alone
-abbrev pub output_entries : (divider enable : ℕ) → PllOutput → List Entry
-output_entries divider enable Off = Set enable 0 ∷ []
-output_entries divider enable (On d h) = Set divider (d - 1) ∷ Set enable 1 ∷ []
+abbrev pub output_entries : (divider enable : ℕ) → Option PllOutput → List Entry
+output_entries divider enable None = Set enable 0 ∷ []
+output_entries divider enable (Some o) = Set divider (o.divider - 1) ∷ Set enable 1 ∷ []
 
 -- if Fractional FRACN, FRACEN 0, FRACEN 1
-abbrev pub fraction_entries : (k : ℕ) → Fraction → List Entry
-fraction_entries k Whole = []
-fraction_entries k (Part f) = Set (of_pll k Fields.FRACN) f ∷ Set (of_pll k Fields.FRACEN) 0 ∷ Set (of_pll k Fields.FRACEN) 1 ∷ []
+abbrev pub fraction_entries : (k : ℕ) → Option ℕ → List Entry
+fraction_entries k None = []
+fraction_entries k (Some f) = Set (of_pll k Fields.FRACN) f ∷ Set (of_pll k Fields.FRACEN) 0 ∷ Set (of_pll k Fields.FRACEN) 1 ∷ []
 
 -- VCOSEL; RGE; M; N − 1
 abbrev pub base_entries : (k : ℕ) → PllSettings → List Entry
@@ -50,12 +40,12 @@ setting_entries k s =
     ++ output_entries (of_pll k Fields.R) (of_pll k Fields.REN) s.r)))
 
 -- a PLL that is skipped adds none
-abbrev pub setup_entries : (k : ℕ) → Pll → List Entry
-setup_entries k Idle = []
-setup_entries k (Runs s) = setting_entries k s
+abbrev pub setup_entries : (k : ℕ) → Option PllSettings → List Entry
+setup_entries k None = []
+setup_entries k (Some s) = setting_entries k s
 
 -- PLL k of a plan, from 0
-abbrev pub pll_in : Plan → ℕ → Pll
+abbrev pub pll_in : Plan → ℕ → Option PllSettings
 pll_in p k = pll_from p.plls k
 
 -- PRFTEN: 1 if latency is above 0
@@ -63,7 +53,7 @@ abbrev pub prften_of : ℕ → ℕ
 prften_of latency = cond (ltb 0 latency) 1 0
 
 -- for each PLL, what sets it up
-abbrev pub setups : List PllPlan → List Entry
+abbrev pub setups : List (Option PllSettings) → List Entry
 setups l = setup_entries 0 (pll_from l 0) ++ (setup_entries 1 (pll_from l 1) ++ setup_entries 2 (pll_from l 2))
 
 -- LSI; flash
@@ -89,9 +79,9 @@ bit true = 1
 bit false = 0
 
 -- with HSE: HSEON, HSEBYP together, wait HSERDY
-abbrev pub hse_entries : Hertz → (bypass : Bool) → List Entry
-hse_entries Unset bypass = []
-hse_entries (Hz h) bypass = Set2 Fields.HSEON 1 Fields.HSEBYP (bit bypass) ∷ Wait Fields.HSERDY 1 ∷ []
+abbrev pub hse_entries : Option ℕ → (bypass : Bool) → List Entry
+hse_entries None bypass = []
+hse_entries (Some h) bypass = Set2 Fields.HSEON 1 Fields.HSEBYP (bit bypass) ∷ Wait Fields.HSERDY 1 ∷ []
 
 -- each PLL's SRC, all of them: three on a chip with three PLLs
 abbrev pub source_entries : (three : Bool) → (src : ℕ) → List Entry
@@ -103,17 +93,17 @@ abbrev pub on_entries : (k : ℕ) → List Entry
 on_entries k = Set (of_pll k Fields.ON) 1 ∷ Wait (of_pll k Fields.RDY) 1 ∷ []
 
 -- a PLL is started when it has P
-abbrev pub output_start : (k : ℕ) → PllOutput → List Entry
-output_start k Off = []
-output_start k (On d h) = on_entries k
+abbrev pub output_start : (k : ℕ) → Option PllOutput → List Entry
+output_start k None = []
+output_start k (Some o) = on_entries k
 
 -- PLL k, where it runs
-abbrev pub start_entries : (k : ℕ) → Pll → List Entry
-start_entries k Idle = []
-start_entries k (Runs s) = output_start k s.p
+abbrev pub start_entries : (k : ℕ) → Option PllSettings → List Entry
+start_entries k None = []
+start_entries k (Some s) = output_start k s.p
 
 -- the starts in PLL order
-abbrev pub starts : List PllPlan → List Entry
+abbrev pub starts : List (Option PllSettings) → List Entry
 starts l = start_entries 0 (pll_from l 0) ++ (start_entries 1 (pll_from l 1) ++ start_entries 2 (pll_from l 2))
 
 -- the prescalers and the selectors
@@ -139,7 +129,7 @@ unfoldable pub bus_entries : Buses → Selectors → List Entry
 bus_entries b s = prescaler_entries b s ++ (check_entries ++ cell_entries)
 
 -- the whole list of a plan, with these starts
-unfoldable pub list_with : (starts : List PllPlan → List Entry) → Plan → List Entry
+unfoldable pub list_with : (starts : List (Option PllSettings) → List Entry) → Plan → List Entry
 list_with starts p =
     setups p.plls
     ++ (clock_entries p.waits p.selectors p.mcos
@@ -159,11 +149,7 @@ most = 69
 abbrev pub fewest : ℕ
 fewest = 21
 
--- a refused request has no entry
-abbrev pub answer_entries : Answer → Plan → List Entry
-answer_entries Accepted p = plan_entries p
-answer_entries (Refused n) p = []
-
--- the list of an answer
-unfoldable pub entries_of : Planned → List Entry
-entries_of x = answer_entries x.answer x.plan
+-- the list of an answer: a refused request has no entry
+unfoldable pub entries_of : Result Plan Refusal → List Entry
+entries_of (Ok p) = plan_entries p
+entries_of (Err n) = []

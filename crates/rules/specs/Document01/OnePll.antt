@@ -1,33 +1,23 @@
 -- Document 01, One PLL: from its request to its settings, or a refusal of 7 to 15.
-use Rattle.std.specs.Prelude.{ℕ, ◌*◌, ◌/◌, ◌%◌, min, max, List, [], ◌∷◌, ◌++◌, Bool, true, false, ◌&&◌, ◌||◌, cond, leb, ltb, eqb, get_or, Float}
-use Rattle.types.specs.declared.Hertz.{Hertz}
-use Rattle.types.specs.declared.Hertz.TheVariants.{Unset, Hz}
+use Rattle.std.specs.Prelude.{ℕ, ◌*◌, ◌/◌, ◌%◌, min, max, List, [], ◌∷◌, ◌++◌, Bool, true, false, ◌&&◌, ◌||◌, cond, leb, ltb, eqb, get_or, Float, Option, Some, None, Result, Ok, Err, unwrap_or, is_some}
+use Rattle.std.specs.Option.{option_or}
+use Rattle.types.specs.declared.Refusal.{Refusal}
 use Rattle.types.specs.declared.Strategy.{Strategy}
 use Rattle.types.specs.declared.Strategy.TheVariants.{Integer, Fractional}
 use Rattle.types.specs.declared.PllRequest.{PllRequest}
 use Rattle.types.specs.declared.PllOutput.{PllOutput}
-use Rattle.types.specs.declared.PllOutput.TheVariants.{Off, On}
-use Rattle.types.specs.declared.Fraction.{Fraction}
-use Rattle.types.specs.declared.Fraction.TheVariants.{Whole, Part}
 use Rattle.types.specs.declared.PllSettings.{PllSettings}
-use Rattle.types.specs.declared.Pll.{Pll}
-use Rattle.types.specs.declared.Pll.TheVariants.{Idle, Runs}
-use Rattle.types.specs.declared.PllPlan.{PllPlan}
 use Rattle.types.specs.declared.Refusal.TheVariants.{OutputZero, OutputsTooFarApart, OutputTooHigh, TargetOutside, NoM, NOutside, FracnOutside, PDividerAbove128, PDividerOdd}
-use Rattle.types.specs.declared.FoundM.{FoundM}
-use Rattle.types.specs.declared.FoundM.TheVariants.{Nothing, M}
 use Rattle.rules.specs.Document01.ChoiceOfM.{chosen_m}
 use Rattle.rules.specs.Document01.Target.{target_of}
-use Rattle.types.specs.declared.Fracn.{Fracn}
-use Rattle.types.specs.declared.Fracn.TheVariants.{Value, OutOfRange}
 use Rattle.std.specs.Float.Ieee.{le, to_unsigned}
 use Rattle.ieee754.specs.Steps.{float, fracn_float, fracn_of, vco_of}
-use Rattle.rules.specs.Document01.Result.{Result, refused, ok, ◌>>=◌, ◌>>◌, require}
-use Rattle.rules.specs.Document01.Hertz.{is_set, hertz_or, or_else, not_zero}
+use Rattle.rules.specs.Document01.Result.{◌>>=◌, ◌>>◌, require}
+use Rattle.rules.specs.Document01.Hertz.{not_zero}
 
 -- step 4: a PLL with no output requested is skipped
 abbrev pub wanted : PllRequest → Bool
-wanted a = is_set a.p || (is_set a.q || is_set a.r)
+wanted a = is_some a.p || (is_some a.q || is_some a.r)
 
 -- refusal 7 is an output of 0 Hz
 abbrev pub none_zero : PllRequest → Bool
@@ -39,9 +29,9 @@ counted_p true h = h
 counted_p false h = h * 2
 
 -- an output that is requested, as it counts
-abbrev pub counted : (ℕ → ℕ) → Hertz → List ℕ
-counted f Unset = []
-counted f (Hz h) = f h ∷ []
+abbrev pub counted : (ℕ → ℕ) → Option ℕ → List ℕ
+counted f None = []
+counted f (Some h) = f h ∷ []
 
 -- all that are requested, P first
 abbrev pub counted_outputs : (odd : Bool) → PllRequest → List ℕ
@@ -87,9 +77,9 @@ abbrev pub range_of : ℕ → Range
 range_of top = cond (ltb top 420_000_000) medium wide
 
 -- M, or refusal 11
-abbrev pub admissible : FoundM → Result ℕ
-admissible Nothing = refused NoM
-admissible (M m) = ok m
+abbrev pub admissible : Option ℕ → Result ℕ Refusal
+admissible None = Err NoM
+admissible (Some m) = Ok m
 
 -- RGE: range 1, 2, 4, 8 from a reference of 1, 2, 4, 8 MHz, as its code
 abbrev pub rge_of : ℕ → ℕ
@@ -97,48 +87,48 @@ rge_of ref = cond (ltb ref 2_000_000) 0 (cond (ltb ref 4_000_000) 1 (cond (ltb r
 
 -- the first requested of P, Q, R
 abbrev pub first_of : PllRequest → ℕ
-first_of a = hertz_or (or_else a.p (or_else a.q a.r)) 0
+first_of a = unwrap_or (option_or a.p (option_or a.q a.r)) 0
 
 -- FRACN = 8192 × ((output × divider) / ref − N) in f32: refusal 13 outside 0–8191 before cutting, then cut down
-unfoldable pub fracn_from : (ref n divider output : Float) → Result Fraction
+unfoldable pub fracn_from : (ref n divider output : Float) → Result (Option ℕ) Refusal
 fracn_from ref n divider output = do
   require (le (float 0) (fracn_float ref n divider output) && le (fracn_float ref n divider output) (float 8191)) FracnOutside
-  ok (Part (to_unsigned 16 (fracn_float ref n divider output)))
+  Ok (Some (to_unsigned 16 (fracn_float ref n divider output)))
 
 -- what the f32 step answers, as a fraction or refusal 13
-abbrev pub taken : Fracn → Result Fraction
-taken (Value f) = ok (Part f)
-taken OutOfRange = refused FracnOutside
+abbrev pub taken : Option ℕ → Result (Option ℕ) Refusal
+taken (Some f) = Ok (Some f)
+taken None = Err FracnOutside
 
 -- by the strategy
-abbrev pub fraction_of : Strategy → (ref n divider output : ℕ) → Result Fraction
-fraction_of Integer ref n divider output = ok Whole
+abbrev pub fraction_of : Strategy → (ref n divider output : ℕ) → Result (Option ℕ) Refusal
+fraction_of Integer ref n divider output = Ok None
 fraction_of Fractional ref n divider output = taken (fracn_of (float ref) (float n) (float divider) (float output))
 
 -- VCO is ref × N in Integer
-abbrev pub vco_by : Fraction → (ref n : ℕ) → ℕ
-vco_by Whole ref n = ref * n
-vco_by (Part f) ref n = vco_of ref n f
+abbrev pub vco_by : Option ℕ → (ref n : ℕ) → ℕ
+vco_by None ref n = ref * n
+vco_by (Some f) ref n = vco_of ref n f
 
 -- each divider = target / output
-abbrev pub output_of : (target vco : ℕ) → Hertz → PllOutput
-output_of target vco Unset = Off
-output_of target vco (Hz h) = On (target / h) (vco / (target / h))
+abbrev pub output_of : (target vco : ℕ) → Option ℕ → Option PllOutput
+output_of target vco None = None
+output_of target vco (Some h) = Some (record { divider = target / h; clock = vco / (target / h) })
 
 -- P's divider. An unset P has none, and 2 stands for it: neither 14 nor 15 fits
-abbrev pub divider_p : (target : ℕ) → Hertz → ℕ
-divider_p target Unset = 2
-divider_p target (Hz h) = target / h
+abbrev pub divider_p : (target : ℕ) → Option ℕ → ℕ
+divider_p target None = 2
+divider_p target (Some h) = target / h
 
 -- refusal 14: above 128; 15: odd where forbidden
-abbrev pub allowed_p : (odd : Bool) → ℕ → Result (Unit {0})
+abbrev pub allowed_p : (odd : Bool) → ℕ → Result (Unit {0}) Refusal
 allowed_p odd d = do
   require (leb d 128) PDividerAbove128
   require (odd || eqb (d % 2) 0) PDividerOdd
 
 -- ---- the steps, one after the other, each with what it has to know
 -- refusals 7, 8 (min below max / 128) and 9 (max of 560,000,000 or more)
-unfoldable pub spanned : (odd : Bool) → PllRequest → Result (Unit {0})
+unfoldable pub spanned : (odd : Bool) → PllRequest → Result (Unit {0}) Refusal
 spanned odd a = do
   require (none_zero a) OutputZero
   require (leb (largest (counted_outputs odd a) / 128) (least (counted_outputs odd a))) OutputsTooFarApart
@@ -153,13 +143,13 @@ abbrev pub target_for : (odd : Bool) → PllRequest → ℕ
 target_for odd a = target_of (least (counted_outputs odd a)) (largest (counted_outputs odd a)) (range_for odd a).end
 
 -- refusal 10 (target outside its range), and M with refusal 11
-unfoldable pub divided_by : (source : ℕ) → Range → (target : ℕ) → Result ℕ
+unfoldable pub divided_by : (source : ℕ) → Range → (target : ℕ) → Result ℕ Refusal
 divided_by source g target = do
   require (leb g.start target && leb target g.end) TargetOutside
   admissible (chosen_m source target g.low g.high)
 
 -- the settings of the numbers chosen
-abbrev pub settings_of : PllRequest → Range → (target m ref n : ℕ) → Fraction → PllSettings
+abbrev pub settings_of : PllRequest → Range → (target m ref n : ℕ) → Option ℕ → PllSettings
 settings_of a g target m ref n f = record {
   vcosel = g.vcosel;
   target = target;
@@ -175,49 +165,49 @@ settings_of a g target m ref n f = record {
 }
 
 -- refusal 12 (N outside 4–512), FRACN with refusal 13, refusals 14 and 15, where ref = source / M and N = target / ref
-unfoldable pub settled : (odd : Bool) → PllRequest → Range → (target m ref n : ℕ) → Result PllSettings
+unfoldable pub settled : (odd : Bool) → PllRequest → Range → (target m ref n : ℕ) → Result PllSettings Refusal
 settled odd a g target m ref n = do
   require (leb 4 n && leb n 512) NOutside
   f ← fraction_of a.strategy ref n (target / first_of a) (first_of a)
   allowed_p odd (divider_p target a.p)
-  ok (settings_of a g target m ref n f)
+  Ok (settings_of a g target m ref n f)
 
 -- one PLL with an output requested
-unfoldable pub runs : (odd : Bool) → (source : ℕ) → PllRequest → Result PllSettings
+unfoldable pub runs : (odd : Bool) → (source : ℕ) → PllRequest → Result PllSettings Refusal
 runs odd source a = do
   spanned odd a
   m ← divided_by source (range_for odd a) (target_for odd a)
   settled odd a (range_for odd a) (target_for odd a) m (source / m) (target_for odd a / (source / m))
 
 -- settings are a PLL that runs
-abbrev pub running : Result PllSettings → Result Pll
-running (refused n) = refused n
-running (ok s) = ok (Runs s)
+abbrev pub running : Result PllSettings Refusal → Result (Option PllSettings) Refusal
+running (Err n) = Err n
+running (Ok s) = Ok (Some s)
 
 -- one PLL
-unfoldable pub pll_of : (odd : Bool) → (source : ℕ) → PllRequest → Result Pll
-pll_of odd source a = cond (wanted a) (running (runs odd source a)) (ok Idle)
+unfoldable pub pll_of : (odd : Bool) → (source : ℕ) → PllRequest → Result (Option PllSettings) Refusal
+pll_of odd source a = cond (wanted a) (running (runs odd source a)) (Ok None)
 
 -- PLL k, from 0, of those that stand by their number
-abbrev pub pll_from : List PllPlan → (k : ℕ) → Pll
-pll_from l k = (get_or l k (record { pll = Idle })).pll
+abbrev pub pll_from : List (Option PllSettings) → (k : ℕ) → Option PllSettings
+pll_from l k = get_or l k None
 
 -- ---- what a PLL reports
-abbrev pub clock_of : PllOutput → Hertz
-clock_of Off = Unset
-clock_of (On d h) = Hz h
+abbrev pub clock_of : Option PllOutput → Option ℕ
+clock_of None = None
+clock_of (Some o) = Some o.clock
 
 -- P, where it is on
-abbrev pub p_clock : Pll → Hertz
-p_clock Idle = Unset
-p_clock (Runs s) = clock_of s.p
+abbrev pub p_clock : Option PllSettings → Option ℕ
+p_clock None = None
+p_clock (Some s) = clock_of s.p
 
 -- Q
-abbrev pub q_clock : Pll → Hertz
-q_clock Idle = Unset
-q_clock (Runs s) = clock_of s.q
+abbrev pub q_clock : Option PllSettings → Option ℕ
+q_clock None = None
+q_clock (Some s) = clock_of s.q
 
 -- R
-abbrev pub r_clock : Pll → Hertz
-r_clock Idle = Unset
-r_clock (Runs s) = clock_of s.r
+abbrev pub r_clock : Option PllSettings → Option ℕ
+r_clock None = None
+r_clock (Some s) = clock_of s.r

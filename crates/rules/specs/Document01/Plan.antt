@@ -1,25 +1,18 @@
 -- Document 01, One call, from the top: from a request and the chip to one complete plan or one refusal, in the order of the numbers.
-use Rattle.std.specs.Prelude.{ℕ, List, [], ◌∷◌, Bool, true, false, cond, ◌||◌, eqb, replicate}
-use Rattle.types.specs.declared.Hertz.{Hertz}
-use Rattle.types.specs.declared.Hertz.TheVariants.{Unset, Hz}
+use Rattle.types.specs.declared.Asked.{Asked}
+use Rattle.std.specs.Prelude.{ℕ, List, [], ◌∷◌, Bool, true, false, cond, ◌||◌, eqb, Option, Some, None, Result, Ok, unwrap_or}
+use Rattle.types.specs.declared.Refusal.{Refusal}
+use Rattle.types.specs.declared.PllSettings.{PllSettings}
 use Rattle.types.specs.declared.Request.{Request}
 use Rattle.types.specs.declared.Chip.{Chip}
 use Rattle.types.specs.declared.ChipState.{ChipState}
 use Rattle.types.specs.declared.Refusal.TheVariants.{OutsideCodes, BankLength, HsiOff, HsidivNot2}
-use Rattle.types.specs.declared.Pll.{Pll}
-use Rattle.types.specs.declared.Pll.TheVariants.{Idle}
-use Rattle.types.specs.declared.PllPlan.{PllPlan}
-use Rattle.types.specs.declared.Bus.{Bus}
 use Rattle.types.specs.declared.Buses.{Buses}
-use Rattle.types.specs.declared.Mco.{Mco}
 use Rattle.types.specs.declared.Mcos.{Mcos}
 use Rattle.types.specs.declared.Clocks.{Clocks}
 use Rattle.types.specs.declared.Selectors.{Selectors}
 use Rattle.types.specs.declared.Plan.{Plan}
-use Rattle.types.specs.declared.Answer.TheVariants.{Accepted, Refused}
-use Rattle.types.specs.declared.Planned.{Planned}
-use Rattle.rules.specs.Document01.Result.{Result, refused, ok, ◌>>=◌, ◌>>◌, require}
-use Rattle.rules.specs.Document01.Hertz.{hertz_or}
+use Rattle.rules.specs.Document01.Result.{◌>>=◌, ◌>>◌, require}
 use Rattle.rules.specs.Document01.Chip.{chip_of, divisor_of, odd_at, has_pll}
 use Rattle.rules.specs.Document01.Bytes.{request_part, is_no_part}
 use Rattle.rules.specs.Document01.Request.{pll_at, configured, source_of, needs_pll1, asked_of}
@@ -29,60 +22,60 @@ use Rattle.rules.specs.Document01.Mco.{mco1_input, mco2_input, mco_of, mco1_code
 use Rattle.rules.specs.Document01.Flash.{flash_of}
 
 -- step 4: PLL k, from 0, where the chip has it
-abbrev pub planned_at : Request → ChipState → (k : ℕ) → Result Pll
-planned_at q c k = cond (has_pll c k) (pll_of (odd_at c k) (source_of q) (asked_of q k)) (ok Idle)
+abbrev pub planned_at : Request → ChipState → (k : ℕ) → Result (Option PllSettings) Refusal
+planned_at q c k = cond (has_pll c k) (pll_of (odd_at c k) (source_of q) (asked_of q k)) (Ok None)
 
 -- the PLLs by their number
-abbrev pub by_number : (pll1 pll2 pll3 : Pll) → List PllPlan
-by_number pll1 pll2 pll3 = record { pll = pll1 } ∷ record { pll = pll2 } ∷ record { pll = pll3 } ∷ []
+abbrev pub by_number : (pll1 pll2 pll3 : Option PllSettings) → List (Option PllSettings)
+by_number pll1 pll2 pll3 = pll1 ∷ pll2 ∷ pll3 ∷ []
 
 -- steps 1 to 4, with refusals 3 to 15: PLLs in order
-unfoldable pub plls_of : Request → ChipState → Result (List PllPlan)
+unfoldable pub plls_of : Request → ChipState → Result (List (Option PllSettings)) Refusal
 plls_of q c = do
   configured q
   pll1 ← planned_at q c 0
   pll2 ← planned_at q c 1
   pll3 ← planned_at q c 2
-  ok (by_number pll1 pll2 pll3)
+  Ok (by_number pll1 pll2 pll3)
 
 -- refusals 16 and 17
-abbrev pub hsi_ready : ChipState → Result (Unit {0})
+abbrev pub hsi_ready : ChipState → Result (Unit {0}) Refusal
 hsi_ready c = do
   require c.hsion HsiOff
   require (eqb (divisor_of c.hsidiv) 2) HsidivNot2
 
 -- step 3: PLL1 P as reported is the system clock where it is needed, else the source is
-abbrev pub system_from : Request → List PllPlan → ℕ
-system_from q l = cond (needs_pll1 q) (hertz_or (p_clock (pll_from l 0)) 0) (source_of q)
+abbrev pub system_from : Request → List (Option PllSettings) → ℕ
+system_from q l = cond (needs_pll1 q) (unwrap_or (p_clock (pll_from l 0)) 0) (source_of q)
 
 -- steps 6 and 7, with refusals 18 and 19
-unfoldable pub buses_of : Request → (system : ℕ) → Result Buses
+unfoldable pub buses_of : Request → (system : ℕ) → Result Buses Refusal
 buses_of q system = do
   ahb ← ahb_of system q.ahb
   apb1 ← apb_of ahb.clock q.apb1
   apb2 ← apb_of ahb.clock q.apb2
   apb3 ← apb_of ahb.clock q.apb3
-  ok (record { ahb = ahb; apb1 = apb1; apb2 = apb2; apb3 = apb3 })
+  Ok (record { ahb = ahb; apb1 = apb1; apb2 = apb2; apb3 = apb3 })
 
 -- step 8: MCO1 runs 20 to 23, then MCO2
-unfoldable pub mcos_of : Request → List PllPlan → (system : ℕ) → Result Mcos
+unfoldable pub mcos_of : Request → List (Option PllSettings) → (system : ℕ) → Result Mcos Refusal
 mcos_of q l system = do
   input1 ← mco1_input q.mco1source q.hse (q_clock (pll_from l 0))
   mco1 ← mco_of input1 q.mco1
   input2 ← mco2_input q.mco2source system q.hse (p_clock (pll_from l 0)) (p_clock (pll_from l 1))
   mco2 ← mco_of input2 q.mco2
-  ok (record { mco1 = mco1; mco2 = mco2 })
+  Ok (record { mco1 = mco1; mco2 = mco2 })
 
 -- SRC: 3 HSE, 1 HSI. SW: 3 PLL1, 2 HSE, 0 HSI
-abbrev pub src_of : Hertz → ℕ
-src_of Unset = 1
-src_of (Hz h) = 3
+abbrev pub src_of : Option ℕ → ℕ
+src_of None = 1
+src_of (Some h) = 3
 
 -- SW, by whether PLL1 P is the system clock
-abbrev pub sw_of : (needed : Bool) → Hertz → ℕ
+abbrev pub sw_of : (needed : Bool) → Option ℕ → ℕ
 sw_of true hse = 3
-sw_of false Unset = 0
-sw_of false (Hz h) = 2
+sw_of false None = 0
+sw_of false (Some h) = 2
 
 -- the clocks reported beside those of the buses, the clock outputs and the PLLs
 abbrev pub clocks_with : Request → (system : ℕ) → Buses → Clocks
@@ -111,7 +104,7 @@ selectors_of q = record {
 }
 
 -- the plan of what was chosen, part by part
-unfoldable pub plan_with : Request → ChipState → List PllPlan → Buses → Mcos → Plan
+unfoldable pub plan_with : Request → ChipState → List (Option PllSettings) → Buses → Mcos → Plan
 plan_with q c l b m = record {
   clocks = clocks_with q (system_from q l) b;
   buses = b;
@@ -124,73 +117,38 @@ plan_with q c l b m = record {
 }
 
 -- all steps
-unfoldable pub chosen_plan : Request → ChipState → Result Plan
+unfoldable pub chosen_plan : Request → ChipState → Result Plan Refusal
 chosen_plan q c = do
   l ← plls_of q c
   hsi_ready c
   b ← buses_of q (system_from q l)
   m ← mcos_of q l (system_from q l)
-  ok (plan_with q c l b m)
+  Ok (plan_with q c l b m)
 
--- the plan beside a refusal: no clock, no number
-abbrev pub no_clocks : Clocks
-no_clocks = record { sys = 0; timx = 0; timy = 0; per = 0; hsi = 0; csi = 0; hsi48 = 0; lsi = 0; hse = Unset; lse = Unset; audio = Unset }
-
--- no bus
-abbrev pub no_bus : Bus
-no_bus = record { pre = 0; clock = 0 }
-
--- no clock output
-abbrev pub no_mco : Mco
-no_mco = record { pre = 0; clock = Unset }
-
--- all of it
-unfoldable pub blank_plan : Plan
-blank_plan = record {
-  clocks = no_clocks;
-  buses = record { ahb = no_bus; apb1 = no_bus; apb2 = no_bus; apb3 = no_bus };
-  mcos = record { mco1 = no_mco; mco2 = no_mco };
-  waits = record { latency = 0; delay = 0 };
-  selectors = record { src = 0; sw = 0; ckpersel = 0; mco1sel = 0; mco2sel = 0 };
-  bypass = false;
-  three = false;
-  plls = replicate 3 (record { pll = Idle });
-}
-
--- the answer that steps come to
-abbrev pub answered : Result Plan → Planned
-answered (refused n) = record { answer = Refused n; plan = blank_plan }
-answered (ok p) = record { answer = Accepted; plan = p }
-
--- the answer to a typed request: one complete plan or one refusal of 3 to 23
-unfoldable pub answer_to : Request → ChipState → Planned
-answer_to q c = answered (chosen_plan q c)
-
--- the same as a call of its own: a request for two PLLs has nothing in its third part, as its bytes have no place for one (refusal 1)
-unfoldable pub answer_typed : Request → ChipState → Planned
-answer_typed q c = answered (do
+-- the same as a call of its own, on a typed request: one complete plan, or one refusal of 3 to 23. A request for two PLLs has nothing in its third
+-- part, as its bytes have no place for one (refusal 1)
+unfoldable pub answer_typed : Request → ChipState → Result Plan Refusal
+answer_typed q c = do
   require (c.three || is_no_part (pll_at q 2)) OutsideCodes
-  chosen_plan q c)
+  chosen_plan q c
 
 -- ---- on bytes, and the chip's numbers as they come in
-pub record Asked : Type 0 where
-  pub request : Request
-  pub chip : ChipState
-
--- refusal 1
-unfoldable pub request_of : (bytes : List ℕ) → Chip → Result Asked
+-- the request and the chip, or refusal 1
+unfoldable pub request_of : (bytes : List ℕ) → Chip → Result Asked Refusal
 request_of bytes chip = do
   c ← chip_of chip
   q ← request_part c.three bytes
-  ok (record { request = q.value; chip = c })
+  Ok (record { request = q.value; chip = c })
 
 -- the planner's call
-unfoldable pub plan_of : (bytes : List ℕ) → Chip → Planned
-plan_of bytes chip = answered (request_of bytes chip >>= λ a. chosen_plan a.request a.chip)
+unfoldable pub plan_of : (bytes : List ℕ) → Chip → Result Plan Refusal
+plan_of bytes chip = do
+  a ← request_of bytes chip
+  chosen_plan a.request a.chip
 
 -- the bank call: refusal 2, a bank that is not 82 words, stands after 1 and before 3
-unfoldable pub bank_plan_of : (bytes : List ℕ) → Chip → (words : ℕ) → Planned
-bank_plan_of bytes chip words = answered (do
+unfoldable pub bank_plan_of : (bytes : List ℕ) → Chip → (words : ℕ) → Result Plan Refusal
+bank_plan_of bytes chip words = do
   a ← request_of bytes chip
   require (eqb words 82) BankLength
-  chosen_plan a.request a.chip)
+  chosen_plan a.request a.chip

@@ -1,8 +1,5 @@
 -- Document 01, Who can cause which refusal: the number of each, the list of them, and which calls answer which.
-use Rattle.std.specs.Prelude.{cond, List, [], ◌∷◌, map, ℕ, eqb}
-use Rattle.std.proofs.Math.Option.{Option, none, some}
-use Rattle.types.specs.declared.Answer.{Answer}
-use Rattle.types.specs.declared.Answer.TheVariants.{Accepted, Refused}
+use Rattle.std.specs.Prelude.{cond, List, [], ◌∷◌, map, ℕ, eqb, Option, Some, None, Result, Ok, Err}
 use Rattle.types.specs.declared.Refusal.{Refusal}
 use Rattle.types.specs.declared.Refusal.TheVariants.{OutsideCodes, BankLength, AboveLimit, McoHseUnstated, Pll1PUnlikeSystem, SourceZero, OutputZero, OutputsTooFarApart, OutputTooHigh, TargetOutside, NoM, NOutside, FracnOutside, PDividerAbove128, PDividerOdd, HsiOff, HsidivNot2, BusZero, AhbZero, Mco1Lse, McoNoOutput, McoZero, McoRatio, CsiDown}
 
@@ -46,8 +43,8 @@ numbers = map number_of refusals
 
 -- the first of a list with a number, if there is one
 abbrev pub first_with : ℕ → List Refusal → Option Refusal
-first_with k [] = none
-first_with k (m ∷ ms) = cond (eqb k (number_of m)) (some m) (first_with k ms)
+first_with k [] = None
+first_with k (m ∷ ms) = cond (eqb k (number_of m)) (Some m) (first_with k ms)
 
 -- the refusal with a number, if there is one
 abbrev pub refusal_of : ℕ → Option Refusal
@@ -78,7 +75,7 @@ call_numbers = plan_numbers ∷ bank_numbers ∷ walk_numbers ∷ []
 abbrev pub no_numbers : List ℕ
 no_numbers = 12 ∷ []
 
--- an answer as one number: 0 for a plan, or the refusal's
-abbrev pub code_of : Answer → ℕ
-code_of Accepted = 0
-code_of (Refused n) = number_of n
+-- what a C function returns of a step: 0, or the refusal's number
+abbrev pub code_of : {A : Type 0} → Result A Refusal → ℕ
+code_of (Ok a) = 0
+code_of (Err n) = number_of n

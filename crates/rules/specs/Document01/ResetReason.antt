@@ -1,9 +1,11 @@
 -- Document 01, Register entries, last paragraph: the reset reason from the flags of a word, and the word to write back.
-use Rattle.std.specs.Prelude.{Bool, true, false, cond, ◌||◌, ℕ, ◌+◌, ◌*◌, ◌^◌, eqb}
+use Rattle.std.specs.Prelude.{Bool, true, false, cond, ◌||◌, ℕ, ◌+◌, ◌*◌, ◌^◌, eqb, Result, Ok}
+use Rattle.types.specs.declared.Refusal.{Refusal}
+use Rattle.types.specs.declared.Reset.{Reset}
 use Rattle.types.specs.declared.ResetReason.{ResetReason}
 use Rattle.types.specs.declared.ResetReason.TheVariants.{PowerOnReset, PinReset, SystemReset, WindowWatchdogReset, IndependentWatchdogReset, GenericWatchdogReset, IllegalStopEntryReset, Unknown}
 use Rattle.types.specs.declared.Refusal.TheVariants.{OutsideCodes}
-use Rattle.rules.specs.Document01.Result.{Result, ok, ◌>>◌, require}
+use Rattle.rules.specs.Document01.Result.{◌>>◌, require}
 use Rattle.rules.specs.Manual.ResetFlags.{RMVF, PIN, BOR, SFT, IWDG, WWDG, LPWR, bit_of}
 
 -- the six flags of a word, other bits left out
@@ -32,13 +34,8 @@ reason_of false word = reason_by (flags_of word) word
 unfoldable pub write_back_of : (word : ℕ) → ℕ
 write_back_of word = cond (eqb (bit_of word RMVF) 1) word (word + 2 ^ RMVF)
 
--- the answer to a word: the reason, and the word to write back
-pub record Told : Type 0 where
-  pub reason : ResetReason
-  pub write_back : ℕ
-
--- a PLL count that is neither 2 nor 3 is refused with 1
-unfoldable pub reset_of : (plls word : ℕ) → Result Told
+-- the answer to a word: the reason and the word to write back. A PLL count that is neither 2 nor 3 is refused with 1
+unfoldable pub reset_of : (plls word : ℕ) → Result Reset Refusal
 reset_of plls word = do
   require (eqb plls 2 || eqb plls 3) OutsideCodes
-  ok (record { reason = reason_of (eqb plls 3) word; write_back = write_back_of word })
+  Ok (record { reason = reason_of (eqb plls 3) word; write_back = write_back_of word })

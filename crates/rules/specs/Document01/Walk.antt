@@ -1,13 +1,10 @@
 -- Document 01, Register entries: the walk over a list, one step at a time, with refusal 24; and Pwr::freeze, a walk too.
-use Rattle.std.specs.Prelude.{Bool, true, false, cond, ◌&&◌, List, [], ◌∷◌, ℕ, ◌-◌, eqb, ltb}
+use Rattle.std.specs.Prelude.{Bool, true, false, cond, ◌&&◌, List, [], ◌∷◌, ℕ, ◌-◌, eqb, ltb, Result, Ok, Err}
 use Rattle.types.specs.declared.Entry.{Entry}
 use Rattle.types.specs.declared.Entry.TheVariants.{Set, Set2, Set3, Set4, Wait, Wait2, Check, Read}
 use Rattle.types.specs.declared.Refusal.{Refusal}
 use Rattle.types.specs.declared.Refusal.TheVariants.{OutsideCodes, CsiDown}
-use Rattle.types.specs.declared.Answer.{Answer}
-use Rattle.types.specs.declared.Answer.TheVariants.{Accepted, Refused}
 use Rattle.types.specs.declared.Plan.{Plan}
-use Rattle.types.specs.declared.Planned.{Planned}
 use Rattle.types.specs.declared.Shown.{Shown}
 use Rattle.types.specs.declared.Shown.TheVariants.{Next, Finished, Stopped}
 use Rattle.rules.specs.Document01.Fields
@@ -19,13 +16,9 @@ pub data Stand : Type 0 where
   ended : Refusal → Stand
 
 -- a fresh record shows the first entry before any step; that of a refused request shows the refusal
-abbrev pub fresh_by : Answer → Plan → Stand
-fresh_by Accepted p = before (plan_entries p)
-fresh_by (Refused n) p = ended n
-
--- a fresh record
-abbrev pub fresh_of : Planned → Stand
-fresh_of x = fresh_by x.answer x.plan
+abbrev pub fresh_of : Result Plan Refusal → Stand
+fresh_of (Ok p) = before (plan_entries p)
+fresh_of (Err n) = ended n
 
 -- what a walk shows: the next entry, finished, or the refusal
 abbrev pub shown_of : Stand → Shown

@@ -2,9 +2,7 @@
 -- Document 01, 'The clock tree'; selectors as in RM0492 and RM0481; words and codes as in docs/CODES.md. The manuals are not at hand:
 -- document 01 and the Rust name what a selector selects, and its codes stand in neither. With a manual, compare these first: SW, MCO1SEL, MCO2SEL
 -- and TIMPRE in RCC_CFGR1, PLLxSRC in RCC_PLLxCFGR, CKPERSEL in RCC_CCIPR5, HSIDIV in RCC_CR, and the figure of the clock tree.
-use Rattle.std.specs.Prelude.{Bool, false, cond, ◌||◌, List, [], ◌∷◌, ℕ, zero, suc, ◌+◌, ◌/◌, eqb, get_or}
-use Rattle.types.specs.declared.Hertz.{Hertz}
-use Rattle.types.specs.declared.Hertz.TheVariants.{Unset, Hz}
+use Rattle.std.specs.Prelude.{Bool, false, cond, ◌||◌, List, [], ◌∷◌, ℕ, zero, suc, ◌+◌, ◌/◌, eqb, get_or, Option, Some, None}
 use Rattle.rules.specs.Document01.Fields
 use Rattle.rules.specs.Document01.Fields.{of_pll}
 use Rattle.rules.specs.Manual.Path.{PllName, pll1, pll2, pll3, whole, part, Path, direct, through, extend}
@@ -15,9 +13,9 @@ pub data Oscillator : Type 0 where
   runs : ℕ → Oscillator
 
 -- HSE as the tree is fed it: the request's hertz, or none
-abbrev pub fed_by : Hertz → Oscillator
-fed_by Unset = off
-fed_by (Hz h) = runs h
+abbrev pub fed_by : Option ℕ → Oscillator
+fed_by None = off
+fed_by (Some h) = runs h
 
 -- what the tree gives for a clock
 pub data Chain : Type 0 where

@@ -1,10 +1,6 @@
 -- The loop of `ask::hex::store_hex`.
-use Prim.Native.Nat.{◌-◌}
 use Rattle.ask.proofs.Pairs.{Stored}
 use Rattle.ask.proofs.hex.store_hex.Given as goal
 
 abbrev pub invariant-loop-i : goal.invariant-loop-i
 invariant-loop-i l = Stored l.v l.initial.sheet l.at l.sheet l.i
-
-abbrev pub decreases-loop-i : goal.decreases-loop-i
-decreases-loop-i l = l.n - l.i

@@ -1,5 +1,5 @@
 -- `clock_api::both::clock_plan_bank` meets its contract.
-use Rattle.clock_api.proofs.Answers.{bank_fits}
+use Rattle.clock_api.proofs.Fits.{bank_fits}
 use Rattle.clock_api.proofs.both.clock_plan_bank.Goals as goal
 
 pub report_by-requires : goal.report_by-requires

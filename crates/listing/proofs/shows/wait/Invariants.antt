@@ -7,7 +7,7 @@ use Rattle.listing.proofs.Showing.{Holding}
 use Rattle.listing.proofs.shows.wait.Given as goal
 
 abbrev pub invariant-loop-again : goal.invariant-loop-again
-invariant-loop-again l = Holding l.reads l.n (Wait l.f l.v) l.i l.initial.out l.at l.out l.again
+invariant-loop-again l = Holding l.reads (Wait l.f l.v) l.i l.initial.room l.at l.room l.again
 
 abbrev pub decreases-loop-again : goal.decreases-loop-again
 decreases-loop-again l = cond l.again (length l.reads - l.at + 1) 0

@@ -4,4 +4,4 @@ use borrow.Author.Rules.{rules}
 use Rattle.page.proofs.list.all_entries.Goals as goal
 
 pub overflow_cast-i : goal.overflow_cast-i
-overflow_cast-i c = let m = at_most c.args.x in search rules
+overflow_cast-i c = let m = at_most c.args.x.now in search rules

@@ -2,5 +2,5 @@
 use Rattle.template.proofs.Digits.{begins}
 use Rattle.template.proofs.write.digits.Goals as goal
 
-pub loop-rest-init : goal.loop-rest-init
-loop-rest-init c = begins c.args.n c.args.row.now c.requires
+pub loop-i-init : goal.loop-i-init
+loop-i-init c = begins c.args.n c.args.row.now c.told-row

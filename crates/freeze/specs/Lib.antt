@@ -1,2 +1,0 @@
-pub mod Plls
-pub mod Freeze
