@@ -1,3 +1,5 @@
 pub mod Keys
-pub mod Taking
 pub mod Pairs
+pub mod Listed
+pub mod Taking
+pub mod Bytewise

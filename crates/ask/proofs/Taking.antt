@@ -1,39 +1,34 @@
--- The words of a text taken one by one: what holds at each place, at the first wrong word, and at the end.
-use mathlib.Core.Path.{◌≡◌, refl, sym, ap, ◌∙◌}
-use mathlib.Core.Bool.{true, false, not}
-use mathlib.Core.List.{List, []}
-use Prim.Native.Nat.{ℕ, zero, suc, ◌+◌, ◌-◌, ◌/◌, ◌≤◌, ◌<◌}
+-- The parts of a text put on a sheet one by one.
+use mathlib.Core.Path.{◌≡◌, refl, sym, ◌∙◌}
+use mathlib.Core.Bool.{Bool, true, false}
+use mathlib.Core.List.{List, [], ◌∷◌}
+use Prim.Native.Nat.{ℕ, ◌+◌, ◌<◌, ◌≤◌}
+use native.Mathlib.Numerals.{add-one}
 use native.Mathlib.Omega.{arith}
-use lib.ListN.{length, get_or, take, drop, length-drop, length-set}
-use lib.Seq.{sets, length-sets}
-use borrow.Author.Tests.{le-leb, lt-leb}
-use borrow.Author.Rules.{part_to_end}
-use Rattle.laws.proofs.Tests.{by_test, never, either}
-use Rattle.std.proofs.Common.{Result, Ok, Err, unwrap_or, is_ok}
-use Rattle.std.proofs.lemmas.List.Sums.{prefix_len-le-length}
-use Rattle.std.proofs.lemmas.List.Folds.{length-prefix_len}
-use Rattle.text.proofs.Parts.{left_one}
+use lib.Dec.{eqb}
+use lib.ListN.{length, get_or, drop, drop_of_length-le}
+use lib.Seq.{drop-cons}
+use Rattle.std.specs.List.{onto_first}
+use Rattle.std.proofs.Common.{Option, Some, None, Result, Ok, Err, unwrap_or, is_ok}
+use Rattle.std.specs.Borrow.{Bor}
+use Rattle.std.specs.Fn.{CalledAt}
+use Rattle.std.specs.Iterator.{Yields}
+use Rattle.std.specs.declared.slice.Split.{Split}
+use Rattle.std.specs.Slice.Iter.{split_rest, split_done, split_callee, split_steps}
+use denote.Param.Members.{Mut}
+use Rattle.std.proofs.lemmas.Iterator.{YieldsList}
+use Rattle.std.proofs.lemmas.Iterator.Consumers.{YieldsList-turn, YieldsList-end}
+use Rattle.std.proofs.lemmas.Iterator.Splits.{YieldsList-from_slice_split}
+use Rattle.std.proofs.lemmas.List.Splits.{length-slice_split}
+use Rattle.laws.proofs.Tests.{by_test, never}
 use Rattle.ask.specs.Words.{key_of, value_of, said_by}
-use Rattle.ask.specs.Sheet.{is_bytes, hex_fits, hex_bytes, bytes_wrong, with_bytes, told, with_said, wrong_of, sheet_with}
-use Rattle.ask.specs.All.{is_blank, filled, end_of, word_in, at_word, taken_from, sheet_from, taken_by, sheet_by}
+use Rattle.ask.specs.Sheet.{is_bytes, hex_fits, bytes_wrong, with_bytes, told, with_said, wrong_of, sheet_with}
 use Rattle.ask.specs.declared.Said.{Said}
+use Rattle.ask.specs.All.{is_blank, parts_of, part_wrong, with_part, at_word, taken_from, sheet_from, taken_by, sheet_by}
 use Rattle.ask.specs.declared.Wrong.{Wrong}
 use Rattle.ask.specs.declared.WrongWord.{WrongWord}
 
--- ---- a word keeps the sheet's length, and a wrong one changes nothing
-bytes_length : (s v : List ℕ) → length (with_bytes s v) ≡ length s
-bytes_length s v =
-    let n = get_or s 114 0 in
-    either (λ (l : List ℕ). length l ≡ length s) (hex_fits n v) _ _ (length-set (sets s n (hex_bytes v)) 114 (n + length v / 2) ∙ length-sets s n (hex_bytes v)) refl
-
-said_length : (s : List ℕ) (r : Result Said Wrong) → length (with_said s r) ≡ length s
-said_length s (Ok q) = length-sets s q.place (take q.count q.bytes)
-said_length s (Err e) = refl
-
-sheet_length : (s w : List ℕ) → length (sheet_with s w) ≡ length s
-unfolding sheet_with
-sheet_length s w = either (λ (l : List ℕ). length l ≡ length s) (is_bytes (key_of w) (value_of w)) _ _ (bytes_length s (unwrap_or (value_of w) [])) (said_length s (said_by w))
-
+-- ---- a wrong word changes nothing
 bytes_unchanged : (s v : List ℕ) → is_ok (bytes_wrong s v) ≡ false → with_bytes s v ≡ s
 bytes_unchanged s v =
     by_test (hex_fits (get_or s 114 0) v)
@@ -44,103 +39,87 @@ said_unchanged : (s : List ℕ) (r : Result Said Wrong) → is_ok (told r) ≡ f
 said_unchanged s (Ok q) h = absurd (never h)
 said_unchanged s (Err d) h = refl
 
-wrong_unchanged : (s w : List ℕ) → is_ok (wrong_of s w) ≡ false → sheet_with s w ≡ s
+word_unchanged : (s w : List ℕ) → is_ok (wrong_of s w) ≡ false → sheet_with s w ≡ s
 unfolding wrong_of sheet_with
-wrong_unchanged s w =
+word_unchanged s w =
     by_test (is_bytes (key_of w) (value_of w))
     (λ (t : is_bytes (key_of w) (value_of w) ≡ true). rw t (bytes_unchanged s (unwrap_or (value_of w) [])))
     (λ (f : is_bytes (key_of w) (value_of w) ≡ false). rw f (said_unchanged s (said_by w)))
 
--- whether a word is wrong, by what is told of it
-right_word : (from to : ℕ) (r : Result (Unit {0}) Wrong) (u : Unit {0}) → at_word from to r ≡ Ok u → is_ok r ≡ true
-right_word from to (Ok u) v e = refl
-right_word from to (Err x) v e = cc
+unchanged : (s w : List ℕ) → is_ok (part_wrong s w) ≡ false → with_part s w ≡ s
+unfolding part_wrong with_part
+unchanged s w = by_test (eqb (length w) 0) (λ t. rw t (λ h. refl)) (λ f. rw f (word_unchanged s w))
 
-wrong_word : (from to : ℕ) (r : Result (Unit {0}) Wrong) (x : WrongWord) → at_word from to r ≡ Err x → is_ok r ≡ false
-wrong_word from to (Ok u) x e = cc
-wrong_word from to (Err y) x e = refl
+-- whether a part is wrong, by what is told of it
+right : (from to : ℕ) (r : Result (Unit {0}) Wrong) (u : Unit {0}) → at_word from to r ≡ Ok u → is_ok r ≡ true
+right from to (Ok u) v e = refl
+right from to (Err x) v e = cc
 
-filled_length : (l : List ℕ) → filled l ≤ length l
-filled_length l = rw (length-prefix_len (λ b. not (is_blank b)) l) (prefix_len-le-length (λ b. not (is_blank b)) l)
+wrong : (from to : ℕ) (r : Result (Unit {0}) Wrong) (x : WrongWord) → at_word from to r ≡ Err x → is_ok r ≡ false
+wrong from to (Ok u) x e = cc
+wrong from to (Err y) x e = refl
 
--- ---- at a place
-pub record Going (s₀ t s : List ℕ) (at : ℕ) : Type 0 where
-  pub turns : ℕ
-  pub enough : length t ≤ turns + at
-  pub within : at ≤ length t
-  pub taken : taken_from turns s t at ≡ taken_by s₀ t
-  pub sheet : sheet_from turns s t at ≡ sheet_by s₀ t
-  pub same : length s ≡ length s₀
+-- ---- places
+-- the places that parts have, and what stands behind each
+abbrev pub total : List (List ℕ) → ℕ
+total [] = 0
+total (w ∷ ws) = length w + 1 + total ws
 
-pub begins : (s t : List ℕ) → Going s t s 0
-begins s t = record { turns = length t; enough = omega arith; within = omega arith; taken = refl; sheet = refl; same = refl }
+onto : (x : ℕ) (ws : List (List ℕ)) → 0 < length ws → total (onto_first x ws) ≡ total ws + 1
+onto x [] h = absurd (omega arith)
+onto x (w ∷ ws) h = omega arith
 
--- past the last word
-past : (s t : List ℕ) (at n : ℕ) → length t ≤ at → (◌≡◌ {A = Result (Unit {0}) WrongWord} (taken_from n s t at) (Ok tt)) × (sheet_from n s t at ≡ s)
-unfolding taken_from sheet_from
-past s t at zero h = (refl, refl)
-past s t at (suc n) h = let l = le-leb (length t) at h in (rw l, rw l)
+whole : (t : List ℕ) → total (parts_of t) ≡ length t + 1
+whole [] = refl
+whole (b ∷ t) =
+    let h = whole t in
+    by_test (is_blank b) (λ e. rw e (omega arith)) (λ e. rw e (onto b (parts_of t) (omega (arith, length-slice_split is_blank t)) ∙ omega arith))
 
-module _ (s₀ t s : List ℕ) (at : ℕ) (g : Going s₀ t s at) where
-  pub ends : length t ≤ at → (Ok tt ≡ taken_by s₀ t) × (s ≡ sheet_by s₀ t)
-  ends h = let n = past s t at g.turns h in (sym n.0 ∙ g.taken, sym n.1 ∙ g.sheet)
+-- ---- the parts that a loop is given
+module _ {F : Type 0} {g : Mut F (Bor ℕ × Unit {0}) Bool} {s i : Split ℕ F} {t : List ℕ} (xs : List (Bor (List ℕ))) (u v : Split ℕ F) (r : Option (Bor (List ℕ)))
+    (a : split_rest s ≡ t) (b : split_done s ≡ false) (j : i ≡ s) (y : Yields (split_steps g) i xs u) (k : split_steps g u r v)
+    (w : (x : ℕ) (b : Bool) (q : F) → CalledAt g (split_callee s) x b q → (q ≡ split_callee s) × (b ≡ is_blank x)) where
+  given : YieldsList (split_steps g) (λ x. x.now) i (parts_of t)
+  given = YieldsList-from_slice_split g is_blank t (rw j a) (rw j b) (rw j) w
 
-  module _ (h : at < length t) where
-    left : g.turns ≡ suc (g.turns - 1)
-    left = omega (arith, g.enough)
+  pub part_at : (x : Bor (List ℕ)) → r ≡ Some x → (length xs < length (parts_of t)) × (x.now ≡ get_or (parts_of t) (length xs) x.now)
+  part_at x e = YieldsList-turn given xs u y r v x e k
 
-    -- a blank
-    pub passes : is_blank (get_or t at 0) ≡ true → Going s₀ t s (at + 1)
-    unfolding taken_from sheet_from
-    passes c =
-        let l = lt-leb (length t) at h in
-        record {
-          turns = g.turns - 1;
-          enough = omega (arith, g.enough);
-          within = omega arith;
-          taken = rw (left, l, c) at g.taken;
-          sheet = rw (left, l, c) at g.sheet;
-          same = g.same;
-        }
+  pub no_part : r ≡ None → length (parts_of t) ≤ length xs
+  no_part e = omega (arith, (YieldsList-end given xs u y r v e k).1)
 
-    -- a word
-    module _ (c : is_blank (get_or t at 0) ≡ false) {count : ℕ} (e : count ≡ filled (take (length t - at) (drop at t))) where
-      counted : count ≡ filled (drop at t)
-      counted = e ∙ ap filled (part_to_end t at)
+-- ---- what holds where n parts are taken
+pub record Going (s₀ t s : List ℕ) (from n : ℕ) : Type 0 where
+  pub places : from + total (drop n (parts_of t)) ≡ length t + 1
+  pub taken : taken_from from s (drop n (parts_of t)) ≡ taken_by s₀ t
+  pub sheet : sheet_from s (drop n (parts_of t)) ≡ sheet_by s₀ t
 
-      pub some : at < at + count
-      some = let k : 1 ≤ count = rw (counted, length-prefix_len (λ b. not (is_blank b)) (drop at t), left_one t at h, c) (omega arith) in omega arith
+pub begins : (s t : List ℕ) → Going s t s 0 0
+begins s t = record { places = omega (arith, whole t); taken = refl; sheet = refl }
 
-      pub inside : at + count ≤ length t
-      inside = rw counted (omega (arith, filled_length (drop at t), length-drop at t))
+module _ (s₀ t s : List ℕ) (from n : ℕ) (g : Going s₀ t s from n) where
+  pub ends : length (parts_of t) ≤ n → (Ok tt ≡ taken_by s₀ t) × (s ≡ sheet_by s₀ t)
+  unfolding taken_from sheet_from
+  ends h = let d : drop n (parts_of t) ≡ [] = drop_of_length-le (parts_of t) h in (rw d at g.taken, rw d at g.sheet)
 
-      word : take (at + count - at) (drop at t) ≡ word_in t at
-      word = let l : at + count - at ≡ filled (drop at t) = omega (arith, counted) in rw l
+  module _ (w : List ℕ) (e : (n < length (parts_of t)) × (w ≡ get_or (parts_of t) n w)) where
+    next : drop n (parts_of t) ≡ w ∷ drop (n + 1) (parts_of t)
+    next = rw (add-one, drop-cons (parts_of t) n w e.0, ← e.1)
 
-      module _ {r : Result (Unit {0}) Wrong} {m : List ℕ} {q : Result (Unit {0}) WrongWord}
-          (w : r ≡ wrong_of s (take (at + count - at) (drop at t))) (p : m ≡ sheet_with s (take (at + count - at) (drop at t))) (a : q ≡ at_word at (at + count) r) where
-        told_here : q ≡ at_word at (end_of t at) (wrong_of s (word_in t at))
-        told_here = a ∙ rw (w, word, counted)
+    pub inside : from + length w + 1 ≤ length t + 1
+    inside = let p = rw next at g.places in omega arith
 
-        pub goes_on : (u : Unit {0}) → q ≡ Ok u → Going s₀ t m (at + count)
-        unfolding taken_from sheet_from
-        goes_on u z =
-            let l = lt-leb (length t) at h in
-            let v = right_word at (end_of t at) (wrong_of s (word_in t at)) u (sym told_here ∙ z) in
-            let n : m ≡ sheet_with s (word_in t at) = p ∙ rw word in
-            record {
-              turns = g.turns - 1;
-              enough = omega (arith, g.enough, some);
-              within = inside;
-              taken = rw (n, counted) (rw (left, l, c, v) at g.taken);
-              sheet = rw (n, counted) (rw (left, l, c, v) at g.sheet);
-              same = rw n (sheet_length s (word_in t at) ∙ g.same);
-            }
+    module _ {r : Result (Unit {0}) WrongWord} {m : List ℕ} (a : r ≡ at_word from (from + length w) (part_wrong s w)) (b : m ≡ with_part s w) where
+      pub goes_on : (u : Unit {0}) → r ≡ Ok u → Going s₀ t m (from + (length w + 1)) (n + 1)
+      unfolding taken_from sheet_from
+      goes_on u z =
+          let v = right from (from + length w) (part_wrong s w) u (sym a ∙ z) in
+          let k : from + (length w + 1) ≡ from + length w + 1 = omega arith in
+          let p = rw next at g.places in
+          record { places = omega arith; taken = rw (b, k) (rw (next, v) at g.taken); sheet = rw b (rw (next, v) at g.sheet) }
 
-        pub stops : (x : WrongWord) → q ≡ Err x → (q ≡ taken_by s₀ t) × (m ≡ sheet_by s₀ t)
-        unfolding taken_from sheet_from
-        stops x z =
-            let l = lt-leb (length t) at h in
-            let v = wrong_word at (end_of t at) (wrong_of s (word_in t at)) x (sym told_here ∙ z) in
-            let n : m ≡ s = p ∙ rw word (wrong_unchanged s (word_in t at) v) in
-            (told_here ∙ (rw (left, l, c, v) at g.taken), n ∙ (rw (left, l, c, v) at g.sheet))
+      pub stops : (x : WrongWord) → r ≡ Err x → (r ≡ taken_by s₀ t) × (m ≡ sheet_by s₀ t)
+      unfolding taken_from sheet_from
+      stops x z =
+          let v = wrong from (from + length w) (part_wrong s w) x (sym a ∙ z) in
+          (a ∙ (rw (next, v) at g.taken), b ∙ unchanged s w v ∙ (rw (next, v) at g.sheet))

@@ -2,7 +2,7 @@
 use Rattle.std.specs.Prelude.{Bool, false, cond, ◌&&◌, List, [], ◌∷◌, Option, Some, None, is_some, unwrap_or, Result, Ok, Err, ℕ, ◌+◌, ◌-◌, ◌*◌, ◌/◌, ◌%◌, leb, eqb, length, get_or, take, drop, set}
 use Rattle.std.specs.List.{list_all}
 use Rattle.std.proofs.lemmas.List.Edits.{sets}
-use Rattle.sheet.specs.Sheet.{fresh_sheet}
+use Rattle.sheet.specs.Sheet.{chip_at, given_at, fresh_sheet}
 use Rattle.ask.specs.Table.{key_at}
 use Rattle.ask.specs.Words.{key_of, value_of, said_by}
 use Rattle.ask.specs.declared.Kind.{Kind}
@@ -32,15 +32,15 @@ hex_bytes (a ∷ b ∷ s) = (16 * digit_value a + digit_value b) ∷ hex_bytes s
 
 -- whether they fit behind the n bytes that are given already
 abbrev pub hex_fits : (n : ℕ) → List ℕ → Bool
-hex_fits n v = is_hex v && leb (n + length v / 2) 106
+hex_fits n v = is_hex v && leb (n + length v / 2) chip_at
 
 -- what is wrong with the value of bytes=
 abbrev pub bytes_wrong : (sheet value : List ℕ) → Result (Unit {0}) Wrong
-bytes_wrong s v = cond (hex_fits (get_or s 114 0) v) (Ok tt) (Err (Value Digits))
+bytes_wrong s v = cond (hex_fits (get_or s given_at 0) v) (Ok tt) (Err (Value Digits))
 
 -- the sheet with it, behind what is given already
 abbrev pub with_bytes : (sheet value : List ℕ) → List ℕ
-with_bytes s v = cond (hex_fits (get_or s 114 0) v) (set (sets s (get_or s 114 0) (hex_bytes v)) 114 (get_or s 114 0 + length v / 2)) s
+with_bytes s v = cond (hex_fits (get_or s given_at 0) v) (set (sets s (get_or s given_at 0) (hex_bytes v)) given_at (get_or s given_at 0 + length v / 2)) s
 
 -- ---- a word on a sheet
 -- whether the word is bytes= and a value

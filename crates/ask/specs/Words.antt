@@ -44,7 +44,7 @@ mco_source y (Some c) None = stores y 6 (c ∷ 0 ∷ 0 ∷ 0 ∷ 0 ∷ 0 ∷ [])
 mco_source y (Some c) (Some h) = mco_hertz y c (hertz_of h)
 
 -- an MCO: a source, and hertz behind a colon or none
-unfoldable pub mco_said : Key → (names value : List ℕ) → Result Said Wrong
+unfoldable pub mco_said : Key → (names : List (List ℕ)) → (value : List ℕ) → Result Said Wrong
 mco_said y names v = mco_source y (number_in names (before 58 v)) (rest_behind 58 v)
 
 -- a value of each kind

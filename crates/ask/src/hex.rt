@@ -55,7 +55,7 @@ fn has_room(at: usize, v: &[u8]) -> bool
     requires { at < 256 }
     ensures { result ≡ hex_fits at v.now }
 {
-    is_hex(v) && at + v.len() / 2 <= 106
+    is_hex(v) && at + v.len() / 2 <= sheet::CHIP
 }
 
 // The value of bytes=, behind what is given already; wrong where it is not hexadecimal or does not fit.
@@ -63,11 +63,11 @@ pub fn take_bytes(sheet: &mut [u8], v: &[u8]) -> Result<(), Wrong>
     ensures wrong { result ≡ bytes_wrong sheet.old v.now }
     ensures sheet { sheet.new ≡ with_bytes sheet.old v.now }
 {
-    let at = usize::from(text::byte_at(sheet, 114, 0));
+    let at = usize::from(sheet.get(sheet::GIVEN).copied().unwrap_or(0));
     if !has_room(at, v) {
         return Err(Wrong::Value(Kind::Digits));
     }
     store_hex(sheet, at, v);
-    text::store(sheet, 114, &[(at + v.len() / 2) as u8]);
+    text::store(sheet, sheet::GIVEN, &[(at + v.len() / 2) as u8]);
     Ok(())
 }

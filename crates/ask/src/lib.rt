@@ -1,13 +1,12 @@
 // A request and a chip in words, as docs/CODES.md has them, and the bytes that they stand for.
 #![tactic(auto)]
 
-ghost use Rattle.std.specs.Prelude.{◌≡◌};
+ghost use Rattle.std.specs.Prelude.{◌≡◌, ◌+◌, ◌<◌, ◌^◌, length};
 ghost use Rattle.ask.specs.Sheet.{wrong_of, sheet_with, width_of, without_key};
-ghost use Rattle.ask.specs.All.{taken_by, sheet_by};
+ghost use Rattle.ask.specs.All.{at_word, part_wrong, with_part, taken_by, sheet_by};
 
 pub use table::KEYS;
 
-mod all;
 mod hex;
 mod table;
 mod value;
@@ -78,24 +77,29 @@ pub fn take(sheet: &mut [u8], word: &[u8]) -> Result<(), Wrong>
     }
 }
 
-// Puts all words of a text on a sheet, up to the first wrong one. Places are counted by hand, since a wrong word is told by its place.
+// Puts what stands between two blanks of a text on a sheet: a word from a place on, or nothing.
+#[tactic(auto, unfolding(crate::specs::All::part_wrong, crate::specs::All::with_part))]
+fn take_part(sheet: &mut [u8], part: &[u8], from: usize) -> Result<(), WrongWord>
+    requires { from + length part.now < 2 ^ 64 }
+    ensures wrong { result ≡ at_word from (from + length part.now) (part_wrong sheet.old part.now) }
+    ensures sheet { sheet.new ≡ with_part sheet.old part.now }
+{
+    if part.is_empty() {
+        return Ok(());
+    }
+    let to = from + part.len();
+    take(sheet, part).map_err(|wrong| WrongWord { wrong, from, to })
+}
+
+// Puts all words of a text on a sheet, up to the first wrong one. A blank, and each byte below it, parts words.
 pub fn take_all(sheet: &mut [u8], words: &[u8]) -> Result<(), WrongWord>
     ensures taken { result ≡ taken_by sheet.old words.now }
     ensures sheet { sheet.new ≡ sheet_by sheet.old words.now }
 {
-    let mut at = 0;
-    while at < words.len() {
-        if all::is_blank(words[at]) {
-            at += 1;
-            continue;
-        }
-        let from = at;
-        at += all::filled(&words[from..]);
-        take(sheet, &words[from..at]).map_err(|wrong| WrongWord {
-            wrong,
-            from,
-            to: at,
-        })?;
+    let mut from = 0;
+    for part in words.split(|b| *b <= b' ') {
+        take_part(sheet, part, from)?;
+        from += part.len() + 1;
     }
     Ok(())
 }
@@ -112,6 +116,7 @@ fn width_of(kind: Kind) -> usize
 }
 
 // A sheet without key k: its bytes are a fresh sheet's.
+#[tactic(auto, using(crate::proofs::Keys::ends_within, crate::proofs::Keys::fresh_length), unfolding(crate::specs::Sheet::without_key))]
 pub fn without(sheet: &mut [u8], k: usize)
     ensures { sheet.new ≡ without_key sheet.old k }
 {

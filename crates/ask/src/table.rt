@@ -1,114 +1,68 @@
 // The keys of a request's words: their names, what kind of value each takes, and the place of its bytes. docs/CODES.md, A request in words.
-ghost use Rattle.std.specs.Prelude.{◌≡◌, ◌<◌, IfSome, get_or};
-ghost use Rattle.text.specs.Names.{number_in};
-ghost use Rattle.ask.specs.Table.{key_names, kinds, places, key_at, strategy_names, count_names, show_names};
+ghost use Rattle.std.specs.Prelude.{◌≡◌, ◌<◌, IfSome, position, length};
+ghost use Rattle.text.specs.Names.{number_in, is_name, column};
+ghost use Rattle.ask.specs.Table.{key_names, key_at};
 
 use crate::{Key, Kind};
 
-// The names of the keys, by their numbers, each in twelve columns.
-pub const KEYS: [u8; 396] =
-    *b"hse         lse         audio       sys         per         ahb         \
-    apb1        apb2        apb3        bypass      mco1        mco2        \
-    pll1        pll1.p      pll1.q      pll1.r      pll2        pll2.p      \
-    pll2.q      pll2.r      pll3        pll3.p      pll3.q      pll3.r      \
-    chip        odd1        odd2        odd3        scale       hsion       \
-    hsidiv      show        bytes       ";
+// The keys, by their numbers.
+pub const KEYS: [(&str, Kind, usize); 33] = [
+    ("hse", Kind::Hertz, 0),
+    ("lse", Kind::Hertz, 5),
+    ("audio", Kind::Hertz, 10),
+    ("sys", Kind::Hertz, 15),
+    ("per", Kind::Hertz, 20),
+    ("ahb", Kind::Hertz, 25),
+    ("apb1", Kind::Hertz, 30),
+    ("apb2", Kind::Hertz, 35),
+    ("apb3", Kind::Hertz, 40),
+    ("bypass", Kind::Nothing, 45),
+    ("mco1", Kind::Mco1, 46),
+    ("mco2", Kind::Mco2, 52),
+    ("pll1", Kind::Strategy, 58),
+    ("pll1.p", Kind::Hertz, 59),
+    ("pll1.q", Kind::Hertz, 64),
+    ("pll1.r", Kind::Hertz, 69),
+    ("pll2", Kind::Strategy, 74),
+    ("pll2.p", Kind::Hertz, 75),
+    ("pll2.q", Kind::Hertz, 80),
+    ("pll2.r", Kind::Hertz, 85),
+    ("pll3", Kind::Strategy, sheet::PLL3),
+    ("pll3.p", Kind::Hertz, sheet::PLL3 + 1),
+    ("pll3.q", Kind::Hertz, sheet::PLL3 + 6),
+    ("pll3.r", Kind::Hertz, sheet::PLL3 + 11),
+    ("chip", Kind::Count, sheet::CHIP),
+    ("odd1", Kind::Small, sheet::CHIP + 1),
+    ("odd2", Kind::Small, sheet::CHIP + 2),
+    ("odd3", Kind::Small, sheet::CHIP + 3),
+    ("scale", Kind::Small, sheet::CHIP + 4),
+    ("hsion", Kind::Small, sheet::CHIP + 5),
+    ("hsidiv", Kind::Small, sheet::CHIP + 6),
+    ("show", Kind::Shown, sheet::SHOWN),
+    ("bytes", Kind::Digits, sheet::GIVEN),
+];
+
+// The place of a key's name among keys.
+fn place_in(keys: &[(&str, Kind, usize)], name: &[u8]) -> Option<usize>
+    ensures place { result ≡ position (λ row. is_name (column row.0.now) name.now) keys.now }
+    ensures inside { IfSome result (λ k. k < length keys.now) }
+{
+    keys.iter().position(|(key, _, _)| text::is_name(key, name))
+}
 
 // The number of a key.
-#[tactic(auto, unfolding(crate::specs::Table::key_names))]
+#[tactic(auto, unfolding(crate::specs::Table::keys, text::specs::Names::number_in))]
 pub fn key_number(name: &[u8]) -> Option<usize>
     ensures number { result ≡ number_in key_names name.now }
     ensures inside { IfSome result (λ k. k < 33) }
 {
-    text::name_number(&KEYS, name)
-}
-
-const KINDS: [Kind; 33] = [
-    Kind::Hertz,
-    Kind::Hertz,
-    Kind::Hertz,
-    Kind::Hertz,
-    Kind::Hertz,
-    Kind::Hertz,
-    Kind::Hertz,
-    Kind::Hertz,
-    Kind::Hertz,
-    Kind::Nothing,
-    Kind::Mco1,
-    Kind::Mco2,
-    Kind::Strategy,
-    Kind::Hertz,
-    Kind::Hertz,
-    Kind::Hertz,
-    Kind::Strategy,
-    Kind::Hertz,
-    Kind::Hertz,
-    Kind::Hertz,
-    Kind::Strategy,
-    Kind::Hertz,
-    Kind::Hertz,
-    Kind::Hertz,
-    Kind::Count,
-    Kind::Small,
-    Kind::Small,
-    Kind::Small,
-    Kind::Small,
-    Kind::Small,
-    Kind::Small,
-    Kind::Shown,
-    Kind::Digits,
-];
-
-#[tactic(auto, unfolding(crate::specs::Table::kinds))]
-fn kind_of(k: usize) -> Kind
-    ensures { result ≡ get_or kinds k Kind.Nothing }
-{
-    KINDS.get(k).copied().unwrap_or(Kind::Nothing)
-}
-
-const PLACES: [usize; 33] = [
-    0, 5, 10, 15, 20, 25, 30, 35, 40, 45, 46, 52, 58, 59, 64, 69, 74, 75, 80, 85, 90, 91, 96, 101,
-    106, 107, 108, 109, 110, 111, 112, 113, 114,
-];
-
-#[tactic(auto, unfolding(crate::specs::Table::places))]
-fn place_of(k: usize) -> usize
-    ensures { result ≡ get_or places k 0 }
-{
-    PLACES.get(k).copied().unwrap_or(0)
+    place_in(&KEYS, name)
 }
 
 // Key k; a key without a value at the start of a sheet past the last one.
-#[tactic(auto, unfolding(crate::specs::Table::key_at))]
 pub fn key(k: usize) -> Key
     ensures { result ≡ key_at k }
 {
-    Key {
-        kind: kind_of(k),
-        place: place_of(k),
-    }
-}
-
-#[tactic(auto, unfolding(crate::specs::Table::strategy_names))]
-pub fn strategy_number(name: &[u8]) -> Option<usize>
-    ensures number { result ≡ number_in strategy_names name.now }
-    ensures inside { IfSome result (λ k. k < 2) }
-{
-    text::name_number(b"integer     fractional  ", name)
-}
-
-#[tactic(auto, unfolding(crate::specs::Table::count_names))]
-pub fn count_number(name: &[u8]) -> Option<usize>
-    ensures number { result ≡ number_in count_names name.now }
-    ensures inside { IfSome result (λ k. k < 2) }
-{
-    text::name_number(b"two         three       ", name)
-}
-
-#[tactic(auto, unfolding(crate::specs::Table::show_names))]
-pub fn show_number(name: &[u8]) -> Option<usize>
-    ensures number { result ≡ number_in show_names name.now }
-    ensures inside { IfSome result (λ k. k < 4) }
-{
-    text::name_number(b"plan        entries     bank        bytes       ", name)
+    let (_, kind, place) = KEYS.get(k).copied().unwrap_or(("", Kind::Nothing, 0));
+    Key { kind, place }
 }

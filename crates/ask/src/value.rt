@@ -1,8 +1,9 @@
 // What a word says: bytes for a place of a sheet, or what is wrong with it.
-ghost use Rattle.std.specs.Prelude.{◌≡◌, ◌+◌, ◌≤◌, ◌<◌, IfSome, IfOk, option_copied, length, ◌/◌};
+ghost use Rattle.std.specs.Prelude.{◌≡◌, ◌+◌, ◌≤◌, ◌<◌, IfSome, IfOk, option_copied, length};
+ghost use Rattle.text.specs.Names.{texts_of};
 ghost use Rattle.ask.specs.Words as Spec;
 
-use crate::{Key, Kind, Said, Wrong, table};
+use crate::{Key, Kind, Said, Wrong};
 
 // One byte, by its number.
 fn one_byte(key: Key, first: u8, number: Option<usize>) -> Result<Said, Wrong>
@@ -44,9 +45,9 @@ fn mco_hertz(key: Key, code: u8, hertz: Option<u32>) -> Result<Said, Wrong>
 
 // A source by its name, and hertz behind a colon or none.
 #[tactic(auto, unfolding(crate::specs::Words::mco_said))]
-fn mco_said(key: Key, names: &[u8], value: &[u8]) -> Result<Said, Wrong>
-    requires { length names.now / 12 ≤ 256 }
-    ensures said { result ≡ Spec.mco_said key names.now value.now }
+fn mco_said(key: Key, names: &[&str], value: &[u8]) -> Result<Said, Wrong>
+    requires { length names.now ≤ 256 }
+    ensures said { result ≡ Spec.mco_said key (texts_of names.now) value.now }
     ensures few { IfOk result (λ q. q.count ≤ 6) }
 {
     let (name, hertz) = text::around(value, b':');
@@ -66,32 +67,31 @@ fn small(value: &[u8]) -> Option<usize>
     ensures number { result ≡ Spec.small value.now }
     ensures inside { IfSome result (λ n. n < 256) }
 {
-    let n = text::whole(value)? as usize;
-    if n < 256 { Some(n) } else { None }
+    u8::try_from(text::whole(value)?).ok().map(usize::from)
 }
 
 // A value of each kind.
-#[tactic(auto, unfolding(crate::specs::Words::value_said, crate::specs::Table::mco1_names, crate::specs::Table::mco2_names))]
+#[tactic(auto, unfolding(crate::specs::Words::value_said, crate::specs::Table::mco1_names, crate::specs::Table::mco2_names, crate::specs::Table::strategy_names, crate::specs::Table::count_names, crate::specs::Table::show_names))]
 fn value_said(key: Key, value: &[u8]) -> Result<Said, Wrong>
     ensures said { result ≡ Spec.value_said key value.now }
     ensures few { IfOk result (λ q. q.count ≤ 6) }
 {
     match key.kind {
         Kind::Hertz => hertz_said(key, text::hertz(value)),
-        Kind::Mco1 => mco_said(
-            key,
-            b"hsi         lse         hse         pll1q       hsi48       ",
-            value,
-        ),
+        Kind::Mco1 => mco_said(key, &["hsi", "lse", "hse", "pll1q", "hsi48"], value),
         Kind::Mco2 => mco_said(
             key,
-            b"sysclk      pll2p       hse         pll1p       csi         lsi         ",
+            &["sysclk", "pll2p", "hse", "pll1p", "csi", "lsi"],
             value,
         ),
-        Kind::Strategy => one_byte(key, 0, table::strategy_number(value)),
-        Kind::Count => one_byte(key, 2, table::count_number(value)),
+        Kind::Strategy => one_byte(key, 0, text::name_number(&["integer", "fractional"], value)),
+        Kind::Count => one_byte(key, 2, text::name_number(&["two", "three"], value)),
         Kind::Small => one_byte(key, 0, small(value)),
-        Kind::Shown => one_byte(key, 0, table::show_number(value)),
+        Kind::Shown => one_byte(
+            key,
+            0,
+            text::name_number(&["plan", "entries", "bank", "bytes"], value),
+        ),
         Kind::Nothing | Kind::Digits => Err(Wrong::Value(key.kind)),
     }
 }

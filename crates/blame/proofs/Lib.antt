@@ -1,2 +1,3 @@
-pub mod Tried
+pub mod Same
+pub mod Freed
 pub mod Named

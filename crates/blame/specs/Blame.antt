@@ -1,8 +1,10 @@
 -- The word that a refusal is about: docs/CODES.md, A request in words.
-use Rattle.std.specs.Prelude.{Bool, cond, not, ◌&&◌, ◌||◌, List, [], ◌∷◌, Option, option_map, ℕ, zero, suc, ◌+◌, leb, eqb, get_or, take}
-use Rattle.rules.specs.Document01.Refusals.{code_of}
+use Rattle.std.specs.Prelude.{◌≡◌, Bool, true, false, cond, List, [], ◌∷◌, Option, Some, None, ℕ, eqb, take, drop}
+use Rattle.std.specs.Result.{result_err}
+use Rattle.types.specs.declared.Refusal.{Refusal}
+use Rattle.types.specs.declared.Refusal.TheVariants.{SourceZero, NoM, AhbZero}
+use Rattle.rules.specs.Document01.Refusals.{number_of}
 use Rattle.rules.specs.Document01.Plan.{plan_of}
-use Rattle.text.specs.Names.{least}
 use Rattle.sheet.specs.Sheet.{request_length, chip_on}
 use Rattle.ask.specs.Sheet.{without_key}
 
@@ -14,36 +16,47 @@ order =
     0 ∷ 13 ∷ 14 ∷ 15 ∷ 17 ∷ 18 ∷ 19 ∷ 21 ∷ 22 ∷ 23 ∷ 12 ∷ 16 ∷ 20 ∷ 10 ∷ 11 ∷ 5 ∷ 6 ∷ 7 ∷ 8 ∷ 3 ∷ 4 ∷ 0 ∷ 9
     ∷ 1 ∷ 2 ∷ 25 ∷ 26 ∷ 27 ∷ 28 ∷ 29 ∷ 30 ∷ 24 ∷ 32 ∷ []
 
--- where to start: with HSE for a refusal that the board causes (document 01: 6, 11, 19), else behind it
-abbrev pub start_for : (refusal : ℕ) → ℕ
-start_for n = cond (eqb n 6 || (eqb n 11 || eqb n 19)) 0 1
+-- what the planner answers to a sheet: its refusal; none for a plan
+unfoldable pub refusal_on : (sheet : List ℕ) → Option Refusal
+refusal_on s = result_err (plan_of (take (request_length s) s) (chip_on s))
 
--- what the planner answers to a sheet
-unfoldable pub refusal_on : (sheet : List ℕ) → ℕ
-refusal_on s = code_of (plan_of (take (request_length s) s) (chip_on s))
+-- the number of what it answers; 0 for a plan
+abbrev pub number_on : Option Refusal → ℕ
+number_on None = 0
+number_on (Some n) = number_of n
 
--- ---- sheets that are tried, one for each place of the order
--- the sheet without the key at place i
-abbrev pub without_one : (sheet : List ℕ) → (i : ℕ) → List ℕ
-without_one s i = without_key s (get_or order i 33)
+-- whether two answers have the same number
+abbrev pub same : Option Refusal → Option Refusal → Bool
+same a b = eqb (number_on a) (number_on b)
 
--- the sheet without the keys from the start up to place i
-unfoldable pub without_all : (start : ℕ) → (sheet : List ℕ) → (i : ℕ) → List ℕ
-without_all a s zero = s
-without_all a s (suc i) = cond (leb a i) (without_one (without_all a s i) i) (without_all a s i)
+-- whether a refusal is one that the board causes (document 01: 6, 11, 19)
+abbrev pub by_board : Option Refusal → Bool
+by_board (Some SourceZero) = true
+by_board (Some NoM) = true
+by_board (Some AhbZero) = true
+by_board _ = false
 
--- whether the sheet of place i is tried, and answered otherwise
-abbrev pub freed_by : (tries : ℕ → List ℕ) → (sheet : List ℕ) → (i : ℕ) → Bool
-freed_by t s i = leb (start_for (refusal_on s)) i && not (eqb (refusal_on (t i)) (refusal_on s))
+-- where in the order to start: with HSE for such a refusal, else behind it
+abbrev pub start_for : Option Refusal → ℕ
+start_for r = cond (by_board r) 0 1
 
--- the key at the first such place; none where there is none
-abbrev pub first_freed : (tries : ℕ → List ℕ) → (sheet : List ℕ) → Option ℕ
-first_freed t s = option_map (λ i. get_or order i 33) (least (freed_by t s) 33)
+-- the first key with which the next sheet that is tried is answered otherwise than a sheet; none where there is none
+unfoldable pub freed_from : (next : List ℕ → ℕ → List ℕ) → (sheet tried : List ℕ) → (keys : List ℕ) → Option ℕ
+freed_from next s t [] = None
+freed_from next s t (k ∷ ks) = cond (same (refusal_on (next t k)) (refusal_on s)) (freed_from next s (next t k) ks) (Some k)
+
+-- whether what follows a call with a sheet and a key is what next has
+abbrev pub Gives : (call : List ℕ → ℕ → List ℕ → Type 0) → (next : List ℕ → ℕ → List ℕ) → Type 0
+Gives call next = (t : List ℕ) (k : ℕ) (r : List ℕ) → call t k r → r ≡ next t k
+
+-- of the keys in their order
+abbrev pub first_freed : (next : List ℕ → ℕ → List ℕ) → (sheet : List ℕ) → Option ℕ
+first_freed next s = freed_from next s s (drop (start_for (refusal_on s)) order)
 
 -- the key without which the sheet is answered otherwise
 unfoldable pub blamed_of : (sheet : List ℕ) → Option ℕ
-blamed_of s = first_freed (without_one s) s
+blamed_of s = first_freed (λ t k. without_key s k) s
 
 -- the last key of those without which, taken away one after the other, the sheet is answered otherwise
 unfoldable pub last_blamed_of : (sheet : List ℕ) → Option ℕ
-last_blamed_of s = first_freed (λ (i : ℕ). without_all (start_for (refusal_on s)) s (i + 1)) s
+last_blamed_of s = first_freed without_key s

@@ -2,22 +2,24 @@
 // single one is, the last of those that have to be taken away together.
 #![tactic(auto)]
 
-ghost use Rattle.std.specs.Prelude.{◌≡◌, ◌<◌, get_or};
+ghost use Rattle.std.specs.Prelude.{◌≡◌, ◌<◌, ℕ, List, IfSome};
 ghost use Rattle.ask.specs.Sheet.{without_key};
-ghost use Rattle.blame.specs.Blame.{order, start_for, refusal_on, blamed_of, last_blamed_of};
+ghost use Rattle.blame.specs.Blame.{start_for, refusal_on, Gives, first_freed, blamed_of, last_blamed_of};
 
+use types::Refusal;
+
+// The order in which keys are tried, by their numbers. docs/CODES.md, A request in words.
 const ORDER: [usize; 33] = [
     0, 13, 14, 15, 17, 18, 19, 21, 22, 23, 12, 16, 20, 10, 11, 5, 6, 7, 8, 3, 4, 0, 9, 1, 2, 25,
     26, 27, 28, 29, 30, 24, 32,
 ];
 
-// The number of the refusal that a sheet gets; 0 for a plan.
+// The refusal that a sheet gets; none for a plan.
 #[tactic(auto, unfolding(crate::specs::Blame::refusal_on))]
-fn refusal_on(sheet: &[u8]) -> u32
+fn refusal_on(sheet: &[u8]) -> Option<Refusal>
     ensures { result ≡ refusal_on sheet.now }
 {
-    let n = sheet::request_length(sheet);
-    refusal::code_of(&rcc::plan(&sheet[..n], sheet::chip(sheet)))
+    rcc::plan(sheet::request(sheet), sheet::chip(sheet)).err()
 }
 
 // A sheet without key k.
@@ -28,52 +30,55 @@ fn without(mut sheet: [u8; 115], k: usize) -> [u8; 115]
     sheet
 }
 
-// The key at a place of the order.
-fn key_at(i: usize) -> usize
-    requires { i < 33 }
-    ensures { result ≡ get_or order i 33 }
+// Where in the order to start: with HSE for a refusal that the board causes.
+fn start_for(refused: Option<Refusal>) -> usize
+    ensures { result ≡ start_for refused }
 {
-    ORDER[i]
-}
-
-// Where to start: with HSE for a refusal that the board causes.
-fn start_for(number: u32) -> usize
-    ensures { result ≡ start_for number }
-{
-    match number {
-        6 | 11 | 19 => 0,
+    match refused {
+        Some(Refusal::SourceZero | Refusal::NoM | Refusal::AhbZero) => 0,
         _ => 1,
     }
 }
 
-// The number of the key without which the sheet is answered otherwise.
-pub fn blamed(sheet: [u8; 115]) -> Option<usize>
-    ensures { result ≡ blamed_of sheet }
+// The first key with which the next sheet that is tried is answered otherwise.
+#[tactic(auto, using(crate::proofs::Freed::key_in), unfolding(crate::specs::Blame::order))]
+fn first_freed<F: Fn([u8; 115], usize) -> [u8; 115]>(sheet: [u8; 115], next: F) -> Option<usize>
+    requires { F.IsAlwaysCallable next }
+    ensures first { (f : List ℕ → ℕ → List ℕ) → Gives (F.post next) f → result ≡ first_freed f sheet }
+    ensures inside { IfSome result (λ k. k < 33) }
 {
-    let number = refusal_on(&sheet);
-    for i in start_for(number)..33 {
-        let k = key_at(i);
-        let one_less = without(sheet, k);
-        if refusal_on(&one_less) != number {
-            return Some(k);
+    let refused = refusal_on(&sheet);
+    let mut tried = sheet;
+    for k in &ORDER[start_for(refused)..] {
+        let less = next(tried, *k);
+        if refusal_on(&less) != refused {
+            return Some(*k);
         }
+        tried = less;
     }
     None
 }
 
-// The number of the last key of those without which, taken away one after the other, the sheet is answered otherwise.
-pub fn last_blamed(sheet: [u8; 115]) -> Option<usize>
-    ensures { result ≡ last_blamed_of sheet }
+// The number of the key without which the sheet is answered otherwise. What the closure gives is stated, since what is inferred of it leaves its
+// result open.
+#[tactic(auto, unfolding(crate::specs::Blame::blamed_of))]
+pub fn blamed(sheet: [u8; 115]) -> Option<usize>
+    ensures key { result ≡ blamed_of sheet }
+    ensures inside { IfSome result (λ k. k < 33) }
 {
-    let number = refusal_on(&sheet);
-    let mut rest = sheet;
-    for i in start_for(number)..33 {
-        let k = key_at(i);
-        let less = without(rest, k);
-        if refusal_on(&less) != number {
-            return Some(k);
-        }
-        rest = less;
-    }
-    None
+    first_freed(
+        sheet,
+        |_, k| -> [u8; 115]
+            ensures { result ≡ without_key sheet k }
+        { without(sheet, k) },
+    )
+}
+
+// The number of the last key of those without which, taken away one after the other, the sheet is answered otherwise.
+#[tactic(auto, unfolding(crate::specs::Blame::last_blamed_of))]
+pub fn last_blamed(sheet: [u8; 115]) -> Option<usize>
+    ensures key { result ≡ last_blamed_of sheet }
+    ensures inside { IfSome result (λ k. k < 33) }
+{
+    first_freed(sheet, without)
 }

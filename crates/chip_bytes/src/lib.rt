@@ -47,7 +47,7 @@ pub fn checked(chip: &[u8], fits: bool) -> Chip
 }
 
 // The planner's call, where the slice lent beside it has its length: `fits`.
-#[tactic(auto, using(crate::proofs::Answers::as_asked, crate::proofs::Answers::as_bank))]
+#[tactic(auto, using(crate::proofs::Asked::as_asked, crate::proofs::Asked::as_bank))]
 pub fn plan(request: &[u8], chip: &[u8], fits: bool) -> Result<Plan, Refusal>
     ensures { result ≡ asked_of request.now chip.now fits }
 {
@@ -55,7 +55,7 @@ pub fn plan(request: &[u8], chip: &[u8], fits: bool) -> Result<Plan, Refusal>
 }
 
 // The call with a bank, likewise.
-#[tactic(auto, using(crate::proofs::Answers::as_asked, crate::proofs::Answers::as_bank))]
+#[tactic(auto, using(crate::proofs::Asked::as_asked, crate::proofs::Asked::as_bank))]
 pub fn plan_bank(request: &[u8], chip: &[u8], fits: bool, bank: &mut [u32]) -> Result<Plan, Refusal>
     ensures answer { result ≡ bank_asked request.now chip.now fits (length bank.old) }
     ensures bank { bank.new ≡ apply_all (entries_of (bank_asked request.now chip.now fits (length bank.old))) bank.old }
@@ -64,7 +64,7 @@ pub fn plan_bank(request: &[u8], chip: &[u8], fits: bool, bank: &mut [u32]) -> R
 }
 
 // The call with a bank and no slice beside it: whether there is a plan. The plan itself is not handed on, which spares a copy.
-#[tactic(auto, using(crate::proofs::Answers::as_asked, crate::proofs::Answers::as_bank))]
+#[tactic(auto, using(crate::proofs::Asked::as_asked, crate::proofs::Asked::as_bank))]
 pub fn answer_bank(request: &[u8], chip: &[u8], bank: &mut [u32]) -> Result<(), Refusal>
     ensures answer { result ≡ without_value (bank_asked request.now chip.now true (length bank.old)) }
     ensures bank { bank.new ≡ apply_all (entries_of (bank_asked request.now chip.now true (length bank.old))) bank.old }

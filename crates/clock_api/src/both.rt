@@ -9,6 +9,7 @@ ghost use Rattle.clock_api.specs.Calls.{report_by};
 use crate::report_by;
 
 // A plan's clocks in 55 words, and the whole list applied to a bank of 82 words.
+#[tactic(auto, using(crate::proofs::Fits::bank_fits))]
 pub fn clock_plan_bank(request: &[u8], chip: &[u8], report: &mut [u32], bank: &mut [u32]) -> u32
     ensures code { result ≡ code_of (bank_asked request.now chip.now (eqb (length report.old) 55) (length bank.old)) }
     ensures report { report.new ≡ report_by (bank_asked request.now chip.now (eqb (length report.old) 55) (length bank.old)) report.old }

@@ -20,6 +20,7 @@ pub mod plls;
 pub mod walks;
 
 // A plan's clocks, in 55 words.
+#[tactic(auto, using(crate::proofs::Fits::asked_fits))]
 pub fn clock_plan(request: &[u8], chip: &[u8], report: &mut [u32]) -> u32
     ensures code { result ≡ code_of (asked_of request.now chip.now (eqb (length report.old) 55)) }
     ensures report { report.new ≡ report_by (asked_of request.now chip.now (eqb (length report.old) 55)) report.old }

@@ -33,18 +33,15 @@ fn wait_states(ahb: u32, scale: Scale) -> u32
 }
 
 // Latency + 8 × delay for an AHB clock and a voltage scale; 255 for no such scale, which is refusal 1, or a clock of 0 Hz, which is 19.
-#[tactic(auto, unfolding(crate::specs::Leaves::waits_for))]
+#[tactic(auto, using(types::proofs::Coded::coded_is), unfolding(crate::specs::Leaves::waits_for))]
 pub fn clock_flash(ahb: u32, scale: u32) -> u32
     ensures { result ≡ waits_code (waits_for ahb scale) }
 {
     if ahb == 0 {
         return 255;
     }
-    match scale {
-        0 => wait_states(ahb, Scale::Scale0),
-        1 => wait_states(ahb, Scale::Scale1),
-        2 => wait_states(ahb, Scale::Scale2),
-        3 => wait_states(ahb, Scale::Scale3),
-        _ => 255,
+    match Scale::try_from(scale) {
+        Ok(scale) => wait_states(ahb, scale),
+        Err(_) => 255,
     }
 }

@@ -4,51 +4,12 @@ ghost use Rattle.rules.specs.Document01.Request as Rules;
 
 use types::{Mco1Source, Mco2Source, PllRequest, Request};
 
-// MCO1's hertz, where PLL1 Q is its source.
-fn for_pll1_q(source: Mco1Source, mco1: Option<u32>) -> Option<u32>
-    ensures { result ≡ Rules.for_pll1_q source mco1 }
-{
-    match source {
-        Mco1Source::Pll1Q => mco1,
-        _ => None,
-    }
-}
-
-// MCO2's hertz, where the system clock is its source.
-fn for_system(source: Mco2Source, mco2: Option<u32>) -> Option<u32>
-    ensures { result ≡ Rules.for_system source mco2 }
-{
-    match source {
-        Mco2Source::Sysclk => mco2,
-        _ => None,
-    }
-}
-
-// MCO2's hertz, where PLL2 P is its source.
-fn for_pll2_p(source: Mco2Source, mco2: Option<u32>) -> Option<u32>
-    ensures { result ≡ Rules.for_pll2_p source mco2 }
-{
-    match source {
-        Mco2Source::Pll2P => mco2,
-        _ => None,
-    }
-}
-
-// MCO2's hertz, where PLL1 P is its source.
-fn for_pll1_p(source: Mco2Source, mco2: Option<u32>) -> Option<u32>
-    ensures { result ≡ Rules.for_pll1_p source mco2 }
-{
-    match source {
-        Mco2Source::Pll1P => mco2,
-        _ => None,
-    }
-}
-
 // The system clock, filled.
 pub fn system_asked(q: &Request) -> Option<u32>
     ensures { result ≡ Rules.system_asked q.now }
 {
-    q.system.or(for_system(q.mco2source, q.mco2))
+    q.system
+        .or(q.mco2.filter(|_| q.mco2source == Mco2Source::Sysclk))
 }
 
 // PLL1, its P and Q filled.
@@ -57,8 +18,12 @@ pub fn pll1_asked(q: &Request) -> PllRequest
 {
     let own = q.plls[0];
     PllRequest {
-        p: own.p.or(for_pll1_p(q.mco2source, q.mco2)),
-        q: own.q.or(for_pll1_q(q.mco1source, q.mco1)),
+        p: own
+            .p
+            .or(q.mco2.filter(|_| q.mco2source == Mco2Source::Pll1P)),
+        q: own
+            .q
+            .or(q.mco1.filter(|_| q.mco1source == Mco1Source::Pll1Q)),
         ..own
     }
 }
@@ -69,7 +34,9 @@ pub fn pll2_asked(q: &Request) -> PllRequest
 {
     let own = q.plls[1];
     PllRequest {
-        p: own.p.or(for_pll2_p(q.mco2source, q.mco2)),
+        p: own
+            .p
+            .or(q.mco2.filter(|_| q.mco2source == Mco2Source::Pll2P)),
         ..own
     }
 }

@@ -21,23 +21,12 @@ pub fn limited(q: &Request) -> Result<(), Refusal>
     Err(Refusal::AboveLimit)
 }
 
-fn from_hse1(source: Mco1Source) -> bool
-    ensures { result ≡ Rules.from_hse1 source }
-{
-    matches!(source, Mco1Source::Hse)
-}
-
-fn from_hse2(source: Mco2Source) -> bool
-    ensures { result ≡ Rules.from_hse2 source }
-{
-    matches!(source, Mco2Source::Hse)
-}
-
 // Refusal 4: an MCO from HSE has HSE stated.
 pub fn stated(q: &Request) -> Result<(), Refusal>
     ensures { result ≡ Rules.stated q.now }
 {
-    if q.hse.is_some() | !(from_hse1(q.mco1source) | from_hse2(q.mco2source)) {
+    let from_hse = q.mco1source == Mco1Source::Hse || q.mco2source == Mco2Source::Hse;
+    if q.hse.is_some() || !from_hse {
         return Ok(());
     }
     Err(Refusal::McoHseUnstated)

@@ -41,7 +41,7 @@ pub fn hse_on<S: Sink>(hse: Option<u32>, bypass: bool, s: &mut S, room: &mut [u3
     match hse {
         None => {}
         Some(_) => {
-            s.set2(HSEON, 1, HSEBYP, bit_of(bypass), room);
+            s.set2(HSEON, 1, HSEBYP, u32::from(bypass), room);
             s.wait(HSERDY, 1, room)
         }
     }

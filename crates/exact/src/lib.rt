@@ -5,12 +5,12 @@ ghost use Rattle.std.specs.Prelude.{◌≡◌};
 ghost use Rattle.rules.specs.Manual.Tree.{fed_by};
 ghost use Rattle.exact.specs.Exact.{path_by, reading_of};
 
-use buses::{ahb, divided, per, sys, timer};
-use fields::{CSION, HSI48ON, LSION, MCO1PRE, MCO2PRE, P, PPRE1, PPRE2, PPRE3, Q, R};
-use mco::{mco1_source, mco2_source};
-use oscillators::{CSI, HSI48, LSI, fixed, hsi};
-use pll::output;
+use bank::Bank;
+use fields::{CSION, HSI48ON, LSION, P, PPRE1, PPRE2, PPRE3, Q, R};
+use oscillators::{CSI, HSI48, LSI};
+use types::{PLL1, PLL2, PLL3};
 
+mod bank;
 mod buses;
 mod mco;
 mod oscillators;
@@ -31,32 +31,33 @@ pub struct Exact {
 pub fn clock_reading(bank: &[u32], hse: Option<u32>, clock: usize) -> Option<Exact>
     ensures { result ≡ reading_of (path_by bank.now (fed_by hse) clock) }
 {
+    let b = Bank { words: bank, hse };
     match clock {
-        0 => sys(bank, hse),
-        1 => ahb(bank, hse),
-        2 => divided(bank, ahb(bank, hse), PPRE1),
-        3 => divided(bank, ahb(bank, hse), PPRE2),
-        4 => divided(bank, ahb(bank, hse), PPRE3),
-        5 => timer(bank, hse, PPRE1),
-        6 => timer(bank, hse, PPRE2),
-        7 => per(bank, hse),
-        8 => hsi(bank),
-        9 => fixed(bank, CSION, CSI),
-        10 => fixed(bank, HSI48ON, HSI48),
-        11 => fixed(bank, LSION, LSI),
-        12 => oscillators::hse(bank, hse),
+        0 => b.sys(),
+        1 => b.ahb(),
+        2 => b.divided(b.ahb(), PPRE1),
+        3 => b.divided(b.ahb(), PPRE2),
+        4 => b.divided(b.ahb(), PPRE3),
+        5 => b.timer(PPRE1),
+        6 => b.timer(PPRE2),
+        7 => b.per(),
+        8 => b.hsi(),
+        9 => b.fixed(CSION, CSI),
+        10 => b.fixed(HSI48ON, HSI48),
+        11 => b.fixed(LSION, LSI),
+        12 => b.hse(),
         13 | 14 => None,
-        15 => divided(bank, mco1_source(bank, hse), MCO1PRE),
-        16 => divided(bank, mco2_source(bank, hse), MCO2PRE),
-        17 => output(bank, hse, 0, P),
-        18 => output(bank, hse, 0, Q),
-        19 => output(bank, hse, 0, R),
-        20 => output(bank, hse, 1, P),
-        21 => output(bank, hse, 1, Q),
-        22 => output(bank, hse, 1, R),
-        23 => output(bank, hse, 2, P),
-        24 => output(bank, hse, 2, Q),
-        25 => output(bank, hse, 2, R),
+        15 => b.mco1(),
+        16 => b.mco2(),
+        17 => b.output(PLL1, P),
+        18 => b.output(PLL1, Q),
+        19 => b.output(PLL1, R),
+        20 => b.output(PLL2, P),
+        21 => b.output(PLL2, Q),
+        22 => b.output(PLL2, R),
+        23 => b.output(PLL3, P),
+        24 => b.output(PLL3, Q),
+        25 => b.output(PLL3, R),
         _ => None,
     }
 }

@@ -4,9 +4,11 @@
 
 ghost use Rattle.std.specs.Prelude.{◌≡◌, set, ◌-◌, ◌<◌};
 ghost use Rattle.rules.specs.Document01.Fields.{of_pll};
-ghost use Rattle.rules.specs.Document01.Entries.{prften_of, bit};
+ghost use Rattle.rules.specs.Document01.Entries.{prften_of};
 ghost use Rattle.rules.specs.Document01.Bank.{reset_bank};
 ghost use Rattle.rules.specs.Manual.Tree.{word as word_of};
+
+use types::PllNumber;
 
 // Document 01, Register entries: 15 fields per PLL. PLL k's words start at 15 * k, from PLL1 as 0.
 pub const VCOSEL: usize = 0;
@@ -116,12 +118,12 @@ pub const ACTVOSRDY: usize = 80;
 
 pub const VOSRDY: usize = 81;
 
-// A field of PLL k.
-pub fn of_pll(k: usize, field: usize) -> usize
-    requires { (k < 3) × (field < 15) }
-    ensures { result ≡ of_pll k field }
+// A field of a PLL.
+pub fn of_pll(pll: PllNumber, field: usize) -> usize
+    requires { field < 15 }
+    ensures { result ≡ of_pll pll.k field }
 {
-    15 * k + field
+    15 * pll.k + field
 }
 
 // N − 1, and divider − 1 for P, Q and R; 0 of 0.
@@ -135,14 +137,7 @@ pub fn less_one(x: u32) -> u32
 pub fn prften(latency: u32) -> u32
     ensures { result ≡ prften_of latency }
 {
-    (0 < latency) as u32
-}
-
-// HSEBYP: 1 with bypass.
-pub fn bit_of(b: bool) -> u32
-    ensures { result ≡ bit b }
-{
-    b as u32
+    u32::from(0 < latency)
 }
 
 // The word of a field; 0 where a bank has none. Not by `get`: an Option of a reference is compiled to a form that scripts/firmware does not take

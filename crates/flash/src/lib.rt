@@ -80,6 +80,7 @@ fn at(row: usize, column: u8) -> u8
 }
 
 // The entry of a row and a column. Each row has its own arm, and a column is a byte: so only the row that is read is laid out.
+#[tactic(auto, using(crate::proofs::Rows::rows))]
 fn entry(scale: Scale, column: u32) -> u8
     requires { column < 252 }
     ensures { result ≡ packed (at_column scale column) }
@@ -94,6 +95,7 @@ fn entry(scale: Scale, column: u32) -> u8
 }
 
 // The wait states for an AHB clock at a voltage scale.
+#[tactic(auto, using(crate::proofs::Rows::unpacked))]
 pub fn flash_setup(ahb: u32, scale: Scale) -> Waits
     ensures { result ≡ flash_of scale ahb }
 {

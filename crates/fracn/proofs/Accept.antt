@@ -1,7 +1,8 @@
 -- `fracn_cut` by the code's three tests.
-use Rattle.std.specs.Prelude.{Some, None, Ok}
-use Rattle.std.proofs.Common.{◌≡◌, ℕ, Bool, true, false, ◌&&◌, sym, refl, ap, ◌∙◌, lit≤}
+use Rattle.std.specs.Prelude.{Option, Some, None, Ok, Err}
+use Rattle.std.proofs.Common.{◌≡◌, ℕ, Bool, true, false, ◌&&◌, ◌^◌, ◌<◌, sym, refl, ap, ◌∙◌, subst, lit≤}
 use lib.Ieee.{Float, lt, le, of_int, to_unsigned}
+use lib.Ieee.Casts.{to_unsigned-lt}
 use Rattle.types.specs.declared.Refusal.TheVariants.{FracnOutside}
 use Rattle.ieee754.specs.Steps.{fracn_float, fracn_cut, fracn_of, accept, float}
 use Rattle.rules.specs.Document01.Result.{require, ◌>>◌}
@@ -45,3 +46,15 @@ taken_from ref n divider output = go (le (float 0) (fracn_float ref n divider ou
     go : (t : Bool) (v : ℕ) → taken (accept t v) ≡ (require t FracnOutside >> Ok (Some v))
     go true v = refl
     go false v = refl
+
+-- so of a FRACN that is accepted, and of one that is not
+pub rules_some : {v : ℕ} (ref n divider output : Float) → Some v ≡ fracn_of ref n divider output → Ok (Some v) ≡ fracn_from ref n divider output
+rules_some ref n divider output e = ap taken e ∙ taken_from ref n divider output
+
+pub rules_none : (ref n divider output : Float) → None ≡ fracn_of ref n divider output → Err FracnOutside ≡ fracn_from ref n divider output
+rules_none ref n divider output e = ap taken e ∙ taken_from ref n divider output
+
+pub short : (f : Float) (h : le (power 0) f ≡ true) (k : le f top_f ≡ true) (v : ℕ) → v ≡ to_unsigned 32 f → v < 2 ^ 16
+short f h k v e = subst (λ (r : ℕ). r < 2 ^ 16) (sym (e ∙ to16 f h k)) (to_unsigned-lt 16 f)
+
+pub ruleset accepts = (narrow, short, accepted, refused_high, accepted_zero, refused_low, rules_some, rules_none)

@@ -2,10 +2,11 @@
 use Rattle.std.proofs.Common.{◌≡◌, ℕ, ◌+◌, ◌-◌, ◌*◌, ◌/◌, ◌^◌, ◌<◌, ◌≤◌, min, Bool, true, false, ◌&&◌, ◌||◌, eqb, ltb, pos, sym, refl, ap, ◌∙◌, true≢false, le_of_eq, le_of_lt, mul-pos, arith, pow_pos, ltb-false, ltb-true, lt-ltb, eqb-true}
 use native.Mathlib.Nat.{div-eq_of_lt}
 use mathlib.Core.Bool.{false≢true}
-use lib.Ieee.{Float, nan, inf, fin, up, down, lt, le, to_unsigned}
+use lib.Ieee.{Float, of_bits, of_int, binary32, nan, inf, fin, up, down, lt, le, to_unsigned}
 use lib.Ieee.Fits.{down_pos}
 use borrow.Author.Tests.{eqb-false}
 use Rattle.ieee754.proofs.Cut.{minus_one, power}
+use Rattle.ieee754.specs.Steps.{float}
 
 abbrev pub zero_f : Float
 zero_f = fin false 0 (pos 0)
@@ -118,3 +119,30 @@ at_most_top (fin false m e) h k = or_left (ltb (m * up e * 1) (8191 * down e)) _
   where
     less : (a d : ℕ) → a < 1 * d → a < 8191 * d
     less a d p = omega arith
+
+-- 0, 1, 8191, 8192, 2^24 and 2^32 by their bit patterns, as MIR has them
+pub zero_is : of_bits binary32 0 ≡ zero_f
+unfolding of_bits
+zero_is = refl
+
+pub top_is : of_bits binary32 0x45fff800 ≡ top_f
+unfolding of_bits
+top_is = refl
+
+pub one : of_bits binary32 0x3f800000 ≡ fin false 1 (pos 0)
+unfolding of_bits
+one = refl
+
+pub two_13 : of_bits binary32 0x46000000 ≡ float 8192
+unfolding of_bits of_int
+two_13 = refl
+
+pub two_24 : of_bits binary32 0x4b800000 ≡ fin false 1 (pos 24)
+unfolding of_bits
+two_24 = refl
+
+pub two_32 : of_bits binary32 0x4f800000 ≡ fin false 1 (pos 32)
+unfolding of_bits
+two_32 = refl
+
+pub ruleset constants = (zero_is, one, top_is, two_13, two_24, two_32)

@@ -28,6 +28,7 @@ fn small_to_f32(n: u32) -> f32
 
 // x cut to a u32, for x from 1 to below 2^24. Its bit pattern is an exponent and 23 digits, which a leading 1 goes before: those below the
 // point are shifted out.
+#[tactic(auto, using(crate::proofs::Pattern::down_from, crate::proofs::Pattern::down_by, crate::proofs::Pattern::down_is))]
 fn cut_down(x: f32) -> u32
     requires low { Ieee.le (fin false 1 (pos 0)) x ≡ true }
     requires high { Ieee.lt x (fin false 1 (pos 24)) ≡ true }
@@ -39,6 +40,7 @@ fn cut_down(x: f32) -> u32
 }
 
 // The same for x from 2^24 to below 2^32, which is a whole number: zeros come after the digits.
+#[tactic(auto, using(crate::proofs::Pattern::up_from, crate::proofs::Pattern::up_by, crate::proofs::Pattern::up_is))]
 fn cut_up(x: f32) -> u32
     requires low { Ieee.le (fin false 1 (pos 24)) x ≡ true }
     requires high { Ieee.lt x (fin false 1 (pos 32)) ≡ true }
@@ -51,6 +53,7 @@ fn cut_up(x: f32) -> u32
 
 // x cut to a u32, to the nearest end where it is out of range, 0 for a NaN: the Rust's `x as u32`. A VCO is mostly above 2^24,
 // which is tested first. std's saturating_f32_to_u32 goes by f64, of which a Cortex-M33 has no instructions.
+#[tactic(auto, using(ieee754::proofs::Cut::cut_high, crate::proofs::Sides::above, crate::proofs::Sides::below, crate::proofs::Sides::under_one, crate::proofs::Sides::constants))]
 fn cut_u32(x: f32) -> u32
     ensures { result ≡ Ieee.to_unsigned 32 x }
 {
@@ -77,6 +80,7 @@ pub struct FracnInput {
 
 // FRACN = 8192 × ((output × divider) / reference − N), cut down. Outside 0 to 8191, a NaN included, it is out of range, which is refusal 13.
 // Below 1 it is 0.
+#[tactic(auto, using(crate::proofs::Accept::accepts, crate::proofs::Sides::constants), unfolding(ieee754::specs::Steps::fracn_of))]
 pub fn calc_fracn(i: FracnInput) -> Option<u16>
     ensures steps { result ≡ fracn_of i.reference i.n i.divider i.output }
     ensures rules { taken result ≡ fracn_from i.reference i.n i.divider i.output }
@@ -95,6 +99,7 @@ pub fn calc_fracn(i: FracnInput) -> Option<u16>
 }
 
 // FRACN from whole numbers, each of them an f32 first.
+#[tactic(auto, using(ieee754::proofs::Zero::fracn_always))]
 pub fn fracn_for(reference: u32, n: u32, divider: u32, output: u32) -> Option<u16>
     ensures steps { result ≡ fracn_of (float reference) (float n) (float divider) (float output) }
     ensures whole { result ≡ fracn_for reference n divider output }
@@ -109,6 +114,7 @@ pub fn fracn_for(reference: u32, n: u32, divider: u32, output: u32) -> Option<u1
 }
 
 // VCO = reference × (N + FRACN / 8192), cut down.
+#[tactic(auto, using(ieee754::proofs::Same::vco_same, crate::proofs::Sides::constants), unfolding(ieee754::specs::Steps::vco_of))]
 pub fn calc_vco_ck(reference: u32, n: u32, fracn: u16) -> u32
     ensures steps { result ≡ vco_of reference n fracn }
     ensures whole { result ≡ vco_whole reference n fracn }

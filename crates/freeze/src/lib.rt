@@ -7,7 +7,7 @@ ghost use Rattle.rules.specs.Document01.Plan as Rules;
 ghost use Rattle.rules.specs.Document01.Request.{configured, needs_pll1, source_of};
 
 use config::Configured;
-use types::{ChipState, Hsidiv, Plan, PllSettings, Refusal, Request};
+use types::{ChipState, Hsidiv, PLL1, PLL2, PLL3, Plan, PllSettings, Refusal, Request};
 
 mod assemble;
 mod codes;
@@ -40,9 +40,9 @@ fn planned(q: &Request, c: &ChipState, s: &Configured) -> Result<Plan, Refusal>
     requires { (configured q.now ≡ Ok tt) × (s.now ≡ settled q.now) × (1 ≤ s.now.source) }
     ensures { result ≡ Rules.chosen_plan q.now c.now }
 {
-    let pll1 = plls::plan_at(c, s.source, s.plls[0], 0)?;
-    let pll2 = plls::plan_at(c, s.source, s.plls[1], 1)?;
-    let pll3 = plls::plan_at(c, s.source, s.plls[2], 2)?;
+    let pll1 = plls::plan_at(c, s.source, s.plls[0], PLL1)?;
+    let pll2 = plls::plan_at(c, s.source, s.plls[1], PLL2)?;
+    let pll3 = plls::plan_at(c, s.source, s.plls[2], PLL3)?;
     rest(q, c, s.needs, s.source, &[pll1, pll2, pll3])
 }
 

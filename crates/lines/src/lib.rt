@@ -78,7 +78,7 @@ pub fn word_line(bank: &[u32], f: u32) -> [u64; 4]
 pub fn byte_line(request: &[u8], i: usize) -> [u64; 4]
     ensures { result ≡ byte_line request.now i }
 {
-    let b = text::byte_at(request, i, 0) as u64;
+    let b = request.get(i).copied().unwrap_or(0) as u64;
     [(i % 30 == 0) as u64, b / 16, b % 16, ends(i, request.len())]
 }
 

@@ -1,17 +1,18 @@
 -- What one thing shown, one entry shown until it is passed, and parts one after the other leave.
 use mathlib.Core.Path.{◌≡◌, refl, ◌∙◌, sym, ap}
-use mathlib.Core.Bool.{Bool, true, false, cond, not, ◌&&◌, ◌||◌}
+use mathlib.Core.Bool.{Bool, true, false, cond, not}
 use mathlib.Core.List.{List, [], ◌∷◌}
 use Prim.Native.Nat.{ℕ, zero, suc, ◌+◌, ◌*◌, ◌-◌, ◌%◌, ◌≤◌, ◌<◌, ◌^◌}
 use native.Mathlib.Omega.{arith}
-use borrow.Author.Tests.{lt-ltb, le-ltb, le-leb, lt-leb, ltb-true, ltb-false}
-use lib.Dec.{ltb, eqb}
-use lib.ListN.{length, get_or, set}
+use borrow.Author.Tests.{le-ltb, lt-leb, ltb-true, ltb-false}
+use lib.Dec.{ltb}
+use lib.ListN.{length}
+use Rattle.std.specs.Prelude.{Option, Some, None}
 use Rattle.types.specs.declared.Entry.{Entry}
 use Rattle.types.specs.declared.Entry.TheVariants.{Set, Set2, Set3, Set4, Wait, Wait2, Check, Read}
 use Rattle.rules.specs.Document01.Walk.{is_check}
 use Rattle.rules.specs.Words.{entry_words, stored_at}
-use Rattle.listing.specs.Showing.{showing, seen, passed_at, once, shown_by, show_one, show_all, far}
+use Rattle.listing.specs.Showing.{showing, seen, passed_at, once, shown_by, show_one, show_all, far, wait_for}
 use Rattle.listing.specs.Show.{wrapped}
 
 -- ---- nine words
@@ -19,28 +20,10 @@ pub no_room : (i : ℕ) (w room : List ℕ) → length room < 9 * i + 9 → room
 unfolding stored_at
 no_room i w room h = rw (lt-leb (9 * i + 9) (length room) h)
 
-pub nine : (i a b c d e f g h j : ℕ) (room : List ℕ) → 9 * i + 9 ≤ length room
-    → set (set (set (set (set (set (set (set (set room (9 * i) a) (9 * i + 1) b) (9 * i + 2) c) (9 * i + 3) d) (9 * i + 4) e) (9 * i + 5) f) (9 * i + 6) g) (9 * i + 7) h) (9 * i + 8) j
-    ≡ stored_at room (9 * i) (a ∷ b ∷ c ∷ d ∷ e ∷ f ∷ g ∷ h ∷ j ∷ [])
-unfolding stored_at
-nine i a b c d e f g h j room r =
-    let p : 9 * i + 3 + 1 ≡ 9 * i + 4 = omega arith in
-    let q : 9 * i + 3 + 2 ≡ 9 * i + 5 = omega arith in
-    let s : 9 * i + 6 + 1 ≡ 9 * i + 7 = omega arith in
-    let t : 9 * i + 6 + 2 ≡ 9 * i + 8 = omega arith in
-    rw (le-leb (9 * i + 9) (length room) r, p, q, s, t)
-
 -- ---- values read
-pub seen_there : (reads : List ℕ) (k v : ℕ) → k < length reads → not (eqb (get_or reads k 0) v) ≡ not (seen reads k v)
-unfolding seen
-seen_there reads k v h = rw (lt-ltb k (length reads) h)
-
 unread : (reads : List ℕ) (k v : ℕ) → length reads ≤ k → seen reads k v ≡ true
 unfolding seen
 unread reads k v h = rw (le-ltb k (length reads) h)
-
-pub not_there : (reads : List ℕ) (k v : ℕ) → length reads ≤ k → false ≡ not (seen reads k v)
-not_there reads k v h = rw (unread reads k v h)
 
 -- where none are left, an entry is passed
 pub all_read : (reads : List ℕ) (i : ℕ) (e : Entry) → length reads ≤ 2 * i → passed_at reads i e ≡ true
@@ -84,9 +67,6 @@ module _ (reads : List ℕ) (e : Entry) where
   pub record Holding (i : ℕ) (room₀ : List ℕ) (at : ℕ) (room : List ℕ) (again : Bool) : Type 0 where
     pub left : cond again (wrapped (show_one reads e (showing at room))) (showing at room) ≡ wrapped (show_one reads e (showing i room₀))
 
-  pub holds : (i : ℕ) (room : List ℕ) → Holding i room i room true
-  holds i room = record { left = refl }
-
   module _ {i at : ℕ} {room₀ room : List ℕ} {was : Bool} (g : Holding i room₀ at room was) (t : was ≡ true) (short : length reads < 2 ^ 63) where
     module _ {next : ℕ} {again : Bool} (p : next ≡ (at + 1) % 2 ^ 64) (r : again ≡ not (passed_at reads at e)) where
       pub fewer_left : cond again (length reads - next + 1) 0 < cond was (length reads - at + 1) 0
@@ -109,19 +89,10 @@ module _ (reads : List ℕ) (e : Entry) where
               let l : next ≡ at + 1 = p ∙ omega arith in
               record { left = rw (r, h, l, q) (sym (ap wrapped (one_step at room ∙ rw (h, c))) ∙ left) }
 
-pub waited : (reads : List ℕ) (e : Entry) (i : ℕ) (b : List ℕ) {r : ℕ} {c : List ℕ} {again : Bool} → Holding reads e i b r c again → again ≡ false → showing r c ≡ wrapped (show_one reads e (showing i b))
-waited reads e i b g t = rw t at g.left
-
--- one of two values is another
-either_of : (s t : Bool) → not s || not t ≡ not (s && t)
-either_of true t = refl
-either_of false t = refl
-
-pub either : (reads : List ℕ) (i v w : ℕ) {p q : Bool} → p ≡ not (seen reads (2 * i + 0) v) → q ≡ not (seen reads (2 * i + 1) w) → p || q ≡ not (seen reads (2 * i) v && seen reads (2 * i + 1) w)
-either reads i v w p q = let l : 2 * i + 0 ≡ 2 * i = omega arith in rw (p, q, l) (either_of (seen reads (2 * i) v) (seen reads (2 * i + 1) w))
-
-pub first : (reads : List ℕ) (i v : ℕ) {p : Bool} → p ≡ not (seen reads (2 * i + 0) v) → p ≡ not (seen reads (2 * i) v)
-first reads i v p = let l : 2 * i + 0 ≡ 2 * i = omega arith in rw l at p
+-- a wait is no check
+pub waits : (f v : ℕ) (second : Option (ℕ × ℕ)) → is_check (wait_for f v second) ≡ false
+waits f v None = refl
+waits f v (Some s) = refl
 
 -- a list that is ended shows no more
 pub ended_stays : (reads : List ℕ) (es : List Entry) (at : ℕ) (room : List ℕ) → record { at = at; down = true; room = room } ≡ show_all reads es (record { at = at; down = true; room = room })

@@ -16,8 +16,8 @@ use Rattle.rules.proofs.Document01.Length.{at_most}
 use Rattle.entries.specs.Sink.{told}
 use Rattle.listing.specs.declared.shows.Show.{Show}
 use Rattle.listing.specs.Showing.{Showing, showing, seen, passed_at, show_one, show_all, far}
-use Rattle.listing.specs.Show.{wrapped, stands, shown, shown_once}
-use Rattle.listing.proofs.Showing.{passed, stopped, near_by}
+use Rattle.listing.specs.Show.{stands, shown, shown_once}
+use Rattle.listing.proofs.Showing.{passed, stopped, near_by, Holding}
 
 -- ---- what a sink does for an entry that is passed whatever is read
 once_is : (e : Entry) (s : Show) (room : List ℕ) → passed_at s.reads.now s.at e ≡ true → shown_once (entry_words e) (s, room) ≡ shown e (s, room)
@@ -66,9 +66,10 @@ unfolding shown
 ends_is e s room d = rw d
 
 -- ---- what it does for a wait
-pub wait_is : (e : Entry) (s : Show) (room : List ℕ) {at : ℕ} {after : List ℕ} → s.down ≡ false → showing at after ≡ wrapped (show_one s.reads.now e (showing s.at room)) → (record { reads = s.reads; at = at; down = s.down }, after) ≡ shown e (s, room)
+pub waited : (e : Entry) (s : Show) (room : List ℕ) {at : ℕ} {after : List ℕ} {again : Bool} → s.down ≡ false → Holding s.reads.now e s.at room at after again → again ≡ false
+    → (record { reads = s.reads; at = at; down = s.down }, after) ≡ shown e (s, room)
 unfolding shown
-wait_is e s room d w = rw d (ap (stands s) w)
+waited e s room d g t = rw d (ap (stands s) (rw t at g.left))
 
 -- ---- what it does for a check
 pub check_is : (f v : ℕ) (s : Show) (room : List ℕ) {at : ℕ} {down : Bool} {after : List ℕ} → s.down ≡ false → at ≡ (s.at + 1) % 2 ^ 64 → down ≡ not (seen s.reads.now (2 * s.at + 0) v)

@@ -121,16 +121,9 @@ module _ (s₀ : Stand) (reads room₀ : List ℕ) (n : ℕ) (enough : last_read
       let b : i < n = omega arith in
       fill_led t w e f k (i + 1) (stored_at room (9 * i) w) (omega arith) (next w g e false t (λ l. f (get_or reads (2 * i) 0) (get_or reads (2 * i + 1) 0)))
 
--- ---- the same words from place i to the end: what holds at the test of the loop
-pub record Filling (n i : ℕ) (w room₀ room : List ℕ) (k : ℕ) : Type 0 where
-  pub left : filled (n - k) k w room ≡ filled (n - i) i w room₀
-
-module _ (n i : ℕ) (w room₀ : List ℕ) where
-  pub fills : Filling n i w room₀ room₀ i
-  fills = record { left = refl }
-
-  pub fills_on : {room : List ℕ} {k : ℕ} → Filling n i w room₀ room k → k < n → {next : List ℕ} → next ≡ stored_at room (9 * k) w → Filling n i w room₀ next (k + 1)
-  fills_on {room} {k} g h e = let l : n - k ≡ suc (n - (k + 1)) = omega arith in record { left = rw e (rw l at g.left) }
+-- ---- the same words from place k to the end, one of them stored
+pub fills_on : (n k : ℕ) (w room : List ℕ) → k < n → filled (n - (k + 1)) (k + 1) w (stored_at room (9 * k) w) ≡ filled (n - k) k w room
+fills_on n k w room h = let l : n - k ≡ suc (n - (k + 1)) = omega arith in rw l refl
 
 -- ---- of an answer
 all_led : (x : Result Plan Refusal) (reads room : List ℕ) (n : ℕ) (enough : last_read n ≤ length reads) (all : length room ≡ 9 * n)

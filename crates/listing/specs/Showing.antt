@@ -1,6 +1,6 @@
 -- A list shown in order, one entry after the other: how many things were shown, whether the check of CSIRDY has ended it, and the room where they are
 -- stored, nine words each. With no values read every entry is shown once, as a list is stored; with two for each step it is a walk.
-use Rattle.std.specs.Prelude.{Bool, true, false, cond, ◌&&◌, List, [], ◌∷◌, ℕ, zero, suc, ◌+◌, ◌*◌, ◌-◌, ◌^◌, eqb, ltb, length, get_or}
+use Rattle.std.specs.Prelude.{Bool, true, false, cond, ◌&&◌, List, [], ◌∷◌, ℕ, zero, suc, ◌+◌, ◌*◌, ◌-◌, ◌^◌, eqb, ltb, length, get_or, Option, Some, None}
 use Rattle.types.specs.declared.Entry.{Entry}
 use Rattle.types.specs.declared.Entry.TheVariants.{Set, Set2, Set3, Set4, Wait, Wait2, Check, Read}
 use Rattle.rules.specs.Document01.Walk.{is_check}
@@ -29,6 +29,11 @@ passed_at reads i (Wait f v) = seen reads (2 * i) v
 passed_at reads i (Wait2 f v g w) = seen reads (2 * i) v && seen reads (2 * i + 1) w
 passed_at reads i (Check f v) = seen reads (2 * i) v
 passed_at reads i (Read f) = true
+
+-- a wait for one value, or for two
+abbrev pub wait_for : (f v : ℕ) → Option (ℕ × ℕ) → Entry
+wait_for f v None = Wait f v
+wait_for f v (Some s) = Wait2 f v s.0 s.1
 
 -- an entry is shown once
 abbrev pub once : Entry → (down : Bool) → Showing → Showing

@@ -46,11 +46,13 @@ fn last_words(x: &Result<Plan, Refusal>, down: bool) -> (u32, u32)
 }
 
 // The same thing shown from place i to the end.
+#[tactic(auto, using(crate::proofs::Walked::fills_on))]
 fn fill(kind: u32, number: u32, i: usize, n: usize, out: &mut [u32])
     ensures { out.new ≡ filled (n - i) i (kind ∷ number ∷ 0 ∷ 0 ∷ 0 ∷ 0 ∷ 0 ∷ 0 ∷ 0 ∷ []) out.old }
 {
+    let words = [kind, number, 0, 0, 0, 0, 0, 0, 0];
     for k in i..n {
-        shows::nine(kind, number, 0, 0, 0, 0, 0, 0, 0, k, out);
+        shows::nine(&words, k, out);
     }
 }
 

@@ -10,8 +10,9 @@ fn clocks(report: &[u32], bank: &[u32], hse: Option<u32>) {
     for k in 0..26 {
         let numbers = view::clock_line(report, bank, hse, k);
         if numbers[1] != 0 {
-            print::clocks(
+            print::line(
                 b"{0|}{10:2}{4?}  {3#}{.}{5?} / {5}{.}{6?}  exact {7}{.}{8?} {8}/{9}{.}{10?}  not started{.}\n",
+                &print::CLOCKS,
                 &numbers,
             );
         }
@@ -23,8 +24,9 @@ fn pll(n: u32, x: &Option<PllSettings>, src: u32) {
     pll_words::store_pll(x, &mut words);
     let numbers = lines::pll_line(n, src, &words);
     if numbers[2] != 0 {
-        print::clocks(
+        print::line(
             b"pll{0}        {1#} / {2} = {3}, x {4}{5?} + {6}/8192{.}, VCO {7}, {8#}\n",
+            &print::CLOCKS,
             &numbers,
         );
     }
@@ -39,8 +41,9 @@ pub fn plan(p: &Plan, bank: &[u32; 82]) {
     pll(1, &p.plls[0], source);
     pll(2, &p.plls[1], source);
     pll(3, &p.plls[2], source);
-    print::clocks(
+    print::line(
         b"flash       latency {0}, delay {1}\nentries     {2}\n",
+        &print::CLOCKS,
         &[
             u64::from(p.waits.latency),
             u64::from(p.waits.delay),

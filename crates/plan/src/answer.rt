@@ -4,8 +4,7 @@ use types::{Plan, Refusal};
 
 // What the planner answers to a sheet, in a bank at reset values.
 fn ask_planner(sheet: &[u8], bank: &mut [u32]) -> Result<Plan, Refusal> {
-    let n = sheet::request_length(sheet);
-    rcc::plan_bank(&sheet[..n], sheet::chip(sheet), bank)
+    rcc::plan_bank(sheet::request(sheet), sheet::chip(sheet), bank)
 }
 
 // The plan, or the refusal with its page; then what else is asked for.

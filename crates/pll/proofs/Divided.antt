@@ -24,7 +24,9 @@ use Rattle.rules.proofs.Document01.Target.{target_le}
 use Rattle.rules.proofs.Document01.Span.{Pos, pos_is, Inside, Span, span}
 use Rattle.claims.proofs.Legal.OnePll.{Good, range_good, Divides, SomeDivider, divider_p_is, divider_q}
 use Rattle.pll.specs.Answer.{after_span}
-use Rattle.pll.specs.Spans.{Spanned}
+use Rattle.pll.specs.Spans.{Spanned, range_for}
+use Rattle.pll.specs.Search.{low_of, high_of}
+use Rattle.pll.specs.declared.vco.VcoRange.{VcoRange}
 use Rattle.pll.specs.Settle.{HasDivider, Settles, settled_for}
 
 -- ---- dividers
@@ -71,7 +73,7 @@ module _ (odd : Bool) (source : ℕ) (a : PllRequest) (low most : ℕ) (sp : Spa
   small : target < 2_147_483_648
   small = let t = target_le low most g.end in let e = good.to in omega arith
 
-  pub searched : (1 ≤ source) × (target < 2_147_483_648)
+  searched : (1 ≤ source) × (target < 2_147_483_648)
   searched = (sp.source_above, small)
 
   -- the rules speak of the same range and target
@@ -107,7 +109,7 @@ module _ (odd : Bool) (source : ℕ) (a : PllRequest) (low most : ℕ) (sp : Spa
     pub above : 1 ≤ m
     above = admits.above
 
-    pub settles : Settles a target (source / m)
+    settles : Settles a target (source / m)
     settles =
         let t1 : 128_000_000 ≤ target = le_trans good.from from in
         let b = ends in
@@ -126,3 +128,19 @@ module _ (odd : Bool) (source : ℕ) (a : PllRequest) (low most : ℕ) (sp : Spa
     pub rest : settled_for odd a g.vcosel target m (source / m) ≡ after_span odd source a
     unfolding divided_by settled_for settled
     rest = rw (same, within from, is)
+
+  -- ---- the same of the range and the target as they are computed
+  module _ (v : VcoRange) (t : ℕ) (ranged : v ≡ range_for most) (aimed : t ≡ target_of low most v.end) where
+    target_is : t ≡ target
+    target_is = aimed ∙ ap (λ (x : VcoRange). target_of low most x.end) ranged
+
+    pub searched_at : (1 ≤ source) × (t < 2_147_483_648)
+    searched_at = rw target_is searched
+
+    pub settles_at : v.start ≤ t → (m : ℕ) → chosen_m source t (low_of v.medium) (high_of v.medium) ≡ Some m → Settles a t (source / m)
+    settles_at l m e =
+        let start : v.start ≡ g.start = ap (λ (x : VcoRange). x.start) ranged in
+        let same : chosen ≡ chosen_m source t (low_of v.medium) (high_of v.medium) =
+        sym (ap (λ (x : VcoRange). chosen_m source t (low_of x.medium) (high_of x.medium)) ranged ∙ ap (λ (x : ℕ). chosen_m source x g.low g.high) target_is) in
+        let p = target_is in
+        rw target_is (settles (omega arith) m (same ∙ e))

@@ -5,15 +5,15 @@ use mathlib.Core.Bool.{Bool, true, false, ◌&&◌}
 use mathlib.Core.Logic.{◌⊎◌, inl, inr}
 use Prim.Native.Nat.{ℕ, zero, suc, ◌+◌, ◌-◌, ◌*◌, ◌/◌, ◌≤◌, ◌<◌, min}
 use native.Mathlib.Omega.{arith}
-use native.Mathlib.Nat.{mul_comm, mul-le-mul_right, div-mul-le_self, div-lt_iff_lt-mul, le-div_iff_mul-le}
+use native.Mathlib.Nat.{le_trans, mul-le-mul_left, mul_comm, mul-le-mul_right, div-mul-le_self, div-lt_iff_lt-mul, le-div_iff_mul-le}
 use lib.Dec.{leb}
 use lib.IntN.{ℤ, pos}
 use lib.Signed.{lt_z}
 use borrow.Author.Tests.{lt-leb, leb-true, leb-false, ltb-false}
 use Rattle.laws.proofs.Tests.{by_test}
 use Rattle.laws.proofs.Numbers.{div_pos, div_le, above}
-use Rattle.rules.specs.Document01.ChoiceOfM.{in_range, shortfall_of, best_to}
-use Rattle.rules.proofs.Document01.ChoiceOfM.{in_range_is, better_out, better_first, better_less, better_not, best_none, best_more}
+use Rattle.rules.specs.Document01.ChoiceOfM.{in_range, shortfall_of, best_to, chosen_m}
+use Rattle.rules.proofs.Document01.ChoiceOfM.{range_le, range_high, in_range_is, better_out, better_first, better_less, better_not, best_none, best_more}
 use Rattle.pll.specs.Search.{low_of, high_of, Divides}
 
 -- ---- which M are in range
@@ -111,3 +111,42 @@ module _ (source target low high : ℕ) where
     pub still_held : Kept (best_to source target low high (m - 1)) k l → lt_z r l ≡ false → Held (best_to source target low high (m + 1 - 1)) k l
     still_held (inl h) e = absurd (let b = short_below m d in let n = ltb-false (short m) 2_147_483_647 (rw (is, h.1) at e) in omega arith)
     still_held (inr h) e = (rw (best_more source target low high m d.above, h.0) (better_not source target low high k m in_it (rw (is, h.1) at e)), h.1)
+
+-- ---- the loop from the first M to the last
+module _ (medium : Bool) (source m last : ℕ) (o : 1 ≤ source) (f : (source - 1) / high_of medium < m) (e : last ≡ min (source / low_of medium) 63) (t : m ≤ last) where
+  -- an M from the first to the last is in range
+  inside : in_range source (low_of medium) (high_of medium) m ≡ true
+  inside = between source (low_of medium) (high_of medium) o (low_pos medium) (high_pos medium) m f (omega arith)
+
+  -- and so is each that the loop reaches: it can divide the source
+  divides : Divides source m
+  divides = record {
+    above = omega arith;
+    within = omega arith;
+    from_low = range_le _ _ _ (low_pos medium) _ inside;
+    to_high = le_trans (range_high _ (low_of medium) _ _ inside) (mul-le-mul_left m (high_most medium));
+  }
+
+  -- the best of those up to m is held after a turn
+  pub held : (target k b : ℕ) (l r n : ℤ) → Kept source target (low_of medium) (high_of medium) (best_to source target (low_of medium) (high_of medium) (m - 1)) k l
+      → r ≡ pos (shortfall_of source target m)
+      → ((lt_z r l ≡ true) × (b ≡ m) × (n ≡ r)) ⊎ ((lt_z r l ≡ false) × (b ≡ k) × (n ≡ l))
+      → Held source target (low_of medium) (high_of medium) (best_to source target (low_of medium) (high_of medium) (m + 1 - 1)) b n
+  held target k b l r n i s (inl h) = moved source target (low_of medium) (high_of medium) h.1 h.2 (less_held source target (low_of medium) (high_of medium) k m l r divides inside s i h.0)
+  held target k b l r n i s (inr h) = moved source target (low_of medium) (high_of medium) h.1 h.2 (still_held source target (low_of medium) (high_of medium) k m l r divides inside s i h.0)
+
+-- no M is in range where the last is before the first
+pub none_found :
+    (source target first last : ℕ) (medium : Bool) → 1 ≤ source → first ≡ (source - 1) / high_of medium + 1 → last ≡ min (source / low_of medium) 63 → last < first →
+    None ≡ chosen_m source target (low_of medium) (high_of medium)
+unfolding chosen_m
+none_found source target first last medium o f l h =
+    sym (best_same _ _ _ _ 0 63 (omega arith) (λ k b t. all_out _ _ _ o (low_pos medium) (omega arith) k t) ∙ best_none _ _ _ _)
+
+-- what is held after the last is the best of all
+pub all_held :
+    (source target last m : ℕ) (medium : Bool) {r : Option ℕ} → 1 ≤ source → last ≡ min (source / low_of medium) 63 → m ≡ last →
+    best_to source target (low_of medium) (high_of medium) m ≡ r → r ≡ chosen_m source target (low_of medium) (high_of medium)
+unfolding chosen_m
+all_held source target last m medium o l h e =
+    sym (best_same _ _ _ _ m 63 (omega arith) (λ j g t. after_last _ _ _ (low_pos medium) j (omega arith)) ∙ e)

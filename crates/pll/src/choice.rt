@@ -76,6 +76,7 @@ fn reciprocal(m: u32) -> u32
 }
 
 // source / m, as a product with the reciprocal: it falls short by one at most, and what is left over tells.
+#[tactic(auto, using(laws::proofs::Numbers::short_below, laws::proofs::Numbers::by_reciprocal))]
 fn reference(source: u32, m: u32) -> u32
     requires { (1 ≤ m) × (m ≤ 63) }
     ensures { result ≡ source / m }
@@ -86,6 +87,7 @@ fn reference(source: u32, m: u32) -> u32
 }
 
 // What the reference times N falls short of the target: a difference of two i32, and never below 0.
+#[tactic(auto, using(laws::proofs::Numbers::back_sub), unfolding(rules::specs::Document01::ChoiceOfM::shortfall_of))]
 fn shortfall(source: u32, target: u32, m: u32) -> i32
     requires { Divides source m × (target < 2147483648) }
     ensures { result ≡ pos (shortfall_of source target m) }
@@ -118,6 +120,7 @@ fn last_m(medium: bool, source: u32) -> u32
 
 // The search over all M from the first to the last that is admissible. The best so far is two numbers, M and its shortfall; before the first
 // stands a shortfall above every other.
+#[tactic(auto, using(crate::proofs::Search::none_found, crate::proofs::Search::none_held, crate::proofs::Search::before_first))]
 pub fn search_m(source: u32, target: u32, medium: bool) -> Option<u32>
     requires { (1 ≤ source) × (target < 2147483648) }
     ensures { result ≡ chosen_m source target (low_of medium) (high_of medium) }

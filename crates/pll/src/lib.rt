@@ -47,6 +47,7 @@ fn run_pll(odd: bool, source: u32, request: PllRequest) -> Result<Option<PllSett
 }
 
 // Refusals 10 and 11: the VCO's range and target, and M.
+#[tactic(auto, using(crate::proofs::Divided::searched_at, crate::proofs::Divided::outside, crate::proofs::Divided::no_m, crate::proofs::Divided::above, crate::proofs::Divided::settles_at, crate::proofs::Divided::rest))]
 fn divide(
     odd: bool,
     source: u32,

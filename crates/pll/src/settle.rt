@@ -6,7 +6,7 @@ ghost use Rattle.pll.specs.Settle.{HasDivider, Settles, multiplied, settled_for,
 use types::{PllOutput, PllRequest, PllSettings, Refusal, Strategy};
 
 // Refusals 12 and 13: N, FRACN and the VCO.
-#[tactic(auto, unfolding(crate::specs::Settle::settled_for, rules::specs::Document01::OnePll::settled))]
+#[tactic(auto, using(crate::proofs::Settled::fracn_in), unfolding(crate::specs::Settle::settled_for, rules::specs::Document01::OnePll::settled))]
 pub fn settle(
     odd: bool,
     request: PllRequest,

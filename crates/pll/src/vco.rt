@@ -33,6 +33,7 @@ pub fn range_of(most: u32) -> VcoRange
 }
 
 // The target for outputs from least to most.
+#[tactic(auto, using(rules::proofs::Document01::Target::target_whole, rules::proofs::Document01::Target::target_cut), unfolding(rules::specs::Document01::Target::top_of))]
 pub fn target_of(least: u32, most: u32, end: u32) -> u32
     requires { (1 ≤ least) × (1 ≤ most) }
     ensures { result ≡ target_of least most end }

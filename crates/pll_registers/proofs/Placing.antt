@@ -29,3 +29,7 @@ module _ (below v at width : ℕ) (under : below < 2 ^ at) (room : at + width < 
       subst (λ (x : ℕ). x < 2 ^ (at + width)) swapped
       (subst (λ (x : ℕ). v % 2 ^ width * 2 ^ at + below < x) (sym (pow-add 2 width at) ∙ ap (λ (x : ℕ). 2 ^ x) (add_comm width at))
       (digits_lt (mod-lt v (pow_pos width)) under))
+
+  -- of what is put
+  pub put_ends : bit_or below (bit_and v (1 * 2 ^ width % 2 ^ 32 - 1) * 2 ^ at % 2 ^ 32) < 2 ^ (at + width)
+  put_ends = subst (λ (r : ℕ). r < 2 ^ (at + width)) (sym puts) ends

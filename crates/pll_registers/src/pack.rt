@@ -3,9 +3,10 @@ ghost use Rattle.std.specs.Prelude.{◌≡◌, ◌+◌, ◌*◌, ◌^◌, ◌≤
 ghost use Rattle.pll_registers.specs.Registers.{placed, cfgr_of, divr_of, fracr_of, packed};
 
 use crate::PllFields;
-use fields::{bit_of, less_one};
+use fields::less_one;
 
 // A field of so many bits, from a bit on, above the bits that are there.
+#[tactic(auto, using(crate::proofs::Placing::puts, crate::proofs::Placing::put_ends))]
 fn put(below: u32, v: u32, at: u32, width: u32) -> u32
     requires { (below < 2 ^ at) × (at + width < 32) }
     ensures bits { result ≡ below + placed at width v }
@@ -15,6 +16,7 @@ fn put(below: u32, v: u32, at: u32, width: u32) -> u32
 }
 
 // RCC_PLLxCFGR.
+#[tactic(auto, unfolding(crate::specs::Registers::cfgr_of))]
 fn cfgr(f: PllFields) -> u32
     ensures { result ≡ cfgr_of f }
 {
@@ -23,12 +25,13 @@ fn cfgr(f: PllFields) -> u32
     let c = put(b, f.fracen, 4, 1);
     let d = put(c, f.vcosel, 5, 1);
     let e = put(d, f.m, 8, 6);
-    let p = put(e, bit_of(0 < f.p), 16, 1);
-    let q = put(p, bit_of(0 < f.q), 17, 1);
-    put(q, bit_of(0 < f.r), 18, 1)
+    let p = put(e, u32::from(0 < f.p), 16, 1);
+    let q = put(p, u32::from(0 < f.q), 17, 1);
+    put(q, u32::from(0 < f.r), 18, 1)
 }
 
 // RCC_PLLxDIVR.
+#[tactic(auto, unfolding(crate::specs::Registers::divr_of))]
 fn divr(f: PllFields) -> u32
     ensures { result ≡ divr_of f }
 {
@@ -39,6 +42,7 @@ fn divr(f: PllFields) -> u32
 }
 
 // RCC_PLLxFRACR.
+#[tactic(auto, unfolding(crate::specs::Registers::fracr_of))]
 fn fracr(f: PllFields) -> u32
     ensures { result ≡ fracr_of f }
 {

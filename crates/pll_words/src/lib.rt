@@ -74,6 +74,6 @@ pub fn outputs_words(x: &Option<PllSettings>) -> [u32; 9]
 pub fn store_pll(x: &Option<PllSettings>, out: &mut [u32])
     ensures { out.new ≡ pll_stored x.now out.old }
 {
-    words::store_words(out, 0, setting_words(x));
-    words::store_words(out, 9, outputs_words(x))
+    words::store_words(out, 0, &setting_words(x));
+    words::store_words(out, 9, &outputs_words(x))
 }

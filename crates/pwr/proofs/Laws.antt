@@ -1,9 +1,9 @@
 -- What the record shows and where a step leads it, by its target and its place; a step of the record is a step of document 01's voltage walk.
-use mathlib.Core.Path.{◌≡◌, refl, sym, ap, ◌∙◌}
+use mathlib.Core.Path.{◌≡◌, refl}
 use mathlib.Core.Bool.{Bool, true, false, cond}
 use Prim.Native.Nat.{ℕ, ◌<◌, ◌≤◌}
 use lib.Dec.{eqb, ltb}
-use borrow.Author.Tests.{eqb-true, lt-ltb, le-ltb, ltb-true, ltb-false}
+use borrow.Author.Tests.{eqb-true, lt-ltb, le-ltb}
 use Rattle.laws.proofs.Tests.{by_test}
 use Rattle.rules.specs.Document01.Walk.{before, vos_code, voltage_stepped}
 use Rattle.pwr.specs.declared.VoltageWalk.{VoltageWalk}
@@ -61,16 +61,9 @@ module _ (w : VoltageWalk) (a b : ℕ) where
   unfolding stand_of
   refused_stand h = rw (le-ltb w.target 4 h)
 
-  moved_stand : w.target < 4 → stand_of moved ≡ voltage_stepped w.target (stand_of w) a b
+  pub moved_stand : w.target < 4 → stand_of moved ≡ voltage_stepped w.target (stand_of w) a b
   unfolding stand_of
   moved_stand h = rw (lt-ltb w.target 4 h) (leads w.target a b w.at)
-
-  -- it is document 01's step
-  pub stepped_stand : stand_of (stepped_walk w a b) ≡ voltage_stepped w.target (stand_of w) a b
-  stepped_stand =
-      by_test (ltb w.target 4)
-      (λ (t : ltb w.target 4 ≡ true). let h = ltb-true w.target 4 t in ap stand_of (sym (moved_step h)) ∙ moved_stand h)
-      (λ (n : ltb w.target 4 ≡ false). let h = ltb-false w.target 4 n in ap stand_of (sym (refused_step h)) ∙ refused_stand h)
 
 -- a step keeps the target
 pub target_kept : (w : VoltageWalk) (a b : ℕ) → (stepped_walk w a b).target ≡ w.target

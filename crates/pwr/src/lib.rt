@@ -8,6 +8,7 @@ ghost use Rattle.pwr.specs.Walk.{stand_of, fresh_walk, place_after, stepped_walk
 
 use fields::{ACTVOS, ACTVOSRDY, VOS, VOSRDY};
 use types::{Entry, Refusal, Shown};
+use words::steps::Steps;
 
 // The target's scale, and the place: 0 before the wait for ACTVOSRDY, 1 before the read of ACTVOS, 2 before VOS is set, 3 before the wait for
 // VOSRDY, 4 and above finished. Numbers and no enums, as a caller may hand in any.
@@ -26,24 +27,6 @@ pub fn fresh(target: u32) -> VoltageWalk
     VoltageWalk { target, at: 0 }
 }
 
-// What the walk shows: the next entry, finished, or the refusal.
-#[tactic(auto, unfolding(crate::specs::Walk::entries_from, crate::specs::Walk::stand_of))]
-pub fn shows(w: VoltageWalk) -> Shown
-    ensures { result ≡ shown_of (stand_of w) }
-{
-    let target = w.target;
-    if target > 3 {
-        return Shown::Stopped(Refusal::OutsideCodes);
-    }
-    match w.at {
-        0 => Shown::Next(Entry::Wait(ACTVOSRDY, 1)),
-        1 => Shown::Next(Entry::Read(ACTVOS)),
-        2 => Shown::Next(Entry::Set(VOS, 3 - target)),
-        3 => Shown::Next(Entry::Wait(VOSRDY, 1)),
-        _ => Shown::Finished,
-    }
-}
-
 // The place after a step that reads a.
 #[tactic(auto, unfolding(crate::specs::Walk::place_after))]
 fn place_after(target: u32, at: u32, a: u32) -> u32
@@ -59,31 +42,39 @@ fn place_after(target: u32, at: u32, a: u32) -> u32
     }
 }
 
-// The walk after the values read at the entry that it shows.
-#[tactic(auto, using(crate::proofs::Laws::steps))]
-pub fn stepped(w: VoltageWalk, a: u32, b: u32) -> VoltageWalk
-    ensures walk { result ≡ stepped_walk w a b }
-    ensures rules { stand_of result ≡ voltage_stepped w.target (stand_of w) a b }
-{
-    let target = w.target;
-    if target < 4 {
-        return VoltageWalk {
-            target,
-            at: place_after(target, w.at, a),
-        };
-    }
-    w
-}
+impl Steps for VoltageWalk {
+    ghost stand = { stand_of };
 
-// The same in place, with what the walk then shows. walk::step has these lines for its own record: a trait for both would be longer.
-pub fn step(w: &mut VoltageWalk, a: u32, b: u32) -> Shown
-    ensures walk { w.new ≡ stepped_walk w.old a b }
-    ensures rules { stand_of w.new ≡ voltage_stepped w.old.target (stand_of w.old) a b }
-    ensures shown { result ≡ shown_of (stand_of (stepped_walk w.old a b)) }
-{
-    let n = stepped(*w, a, b);
-    *w = n;
-    shows(n)
+    ghost rule = { λ w. voltage_stepped w.target };
+
+    ghost after = { stepped_walk };
+
+    #[tactic(auto, unfolding(crate::specs::Walk::entries_from, crate::specs::Walk::stand_of))]
+    fn shows(self) -> Shown {
+        let target = self.target;
+        if target > 3 {
+            return Shown::Stopped(Refusal::OutsideCodes);
+        }
+        match self.at {
+            0 => Shown::Next(Entry::Wait(ACTVOSRDY, 1)),
+            1 => Shown::Next(Entry::Read(ACTVOS)),
+            2 => Shown::Next(Entry::Set(VOS, 3 - target)),
+            3 => Shown::Next(Entry::Wait(VOSRDY, 1)),
+            _ => Shown::Finished,
+        }
+    }
+
+    #[tactic(auto, using(crate::proofs::Laws::steps))]
+    fn stepped(self, a: u32, _b: u32) -> VoltageWalk {
+        let target = self.target;
+        if target < 4 {
+            return VoltageWalk {
+                target,
+                at: place_after(target, self.at, a),
+            };
+        }
+        self
+    }
 }
 
 // A whole walk over values that were read, two for each step: what was shown before any step and after each, as nine words each. The answer
@@ -92,12 +83,5 @@ pub fn run(target: u32, reads: &[u32], shown: &mut [u32]) -> usize
     ensures count { result ≡ shown_count (length reads.now) (length shown.old) }
     ensures shown { shown.new ≡ ran (voltage_stepped target) (voltage_to target) reads.now shown.old result }
 {
-    let n = words::shown_count(reads.len(), shown.len());
-    let mut w = fresh(target);
-    for i in 0..n {
-        words::store_words(shown, 9 * i, words::shown_words(shows(w)));
-        let k = 2 * i;
-        w = stepped(w, fields::word(reads, k), fields::word(reads, k + 1));
-    }
-    n
+    fresh(target).run(reads, shown)
 }

@@ -24,6 +24,7 @@ fn answer(request: &[u8], chip: Chip, fits: bool) -> Result<Plan, Refusal>
 }
 
 // The planner's call: the bytes of a request and the numbers of a chip to one complete plan or one refusal.
+#[tactic(auto, using(crate::proofs::Promised::promised))]
 pub fn plan(request: &[u8], chip: Chip) -> Result<Plan, Refusal>
     ensures rules { result ≡ plan_of request.now chip }
     ensures answered { Answered plan_numbers result }
@@ -39,6 +40,7 @@ pub fn plan(request: &[u8], chip: Chip) -> Result<Plan, Refusal>
 const BANK: usize = 82;
 
 // The bank call: the same, with the whole list applied to a lent bank of 82 words. It polls nothing.
+#[tactic(auto, using(crate::proofs::Promised::bank_promised, crate::proofs::Promised::other_promised))]
 pub fn plan_bank(request: &[u8], chip: Chip, bank: &mut [u32]) -> Result<Plan, Refusal>
     ensures rules { result ≡ bank_plan_of request.now chip (length bank.old) }
     ensures bank { bank.new ≡ apply_all (entries_of result) bank.old }

@@ -1,4 +1,4 @@
-pub mod Codes
+pub mod Decoding
 pub mod Chips
 pub mod Wrong
 pub mod Reading

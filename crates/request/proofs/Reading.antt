@@ -19,6 +19,7 @@ use Rattle.types.specs.declared.Strategy.TheVariants.{Integer, Fractional}
 use Rattle.types.specs.declared.Mco1Source.{Mco1Source}
 use Rattle.types.specs.declared.Mco2Source.{Mco2Source}
 use Rattle.types.specs.declared.PllRequest.{PllRequest}
+use Rattle.types.specs.declared.Request.{Request}
 use Rattle.rules.specs.Document01.Chip.{chip_of}
 use Rattle.rules.specs.Document01.Result as Result
 use Rattle.rules.specs.Document01.Bytes.{Read, Reader, ◌>>=◌, return, mco1_sources, mco2_sources, byte, end, code, u32le, set_to, hertz, flag, mco1_source, mco2_source, strategy, pll_part, third_part, request_part, size_of, AllBytes}
@@ -26,13 +27,9 @@ use Rattle.types.specs.declared.Asked.{Asked}
 use Rattle.rules.specs.Document01.Plan.{request_of}
 use Rattle.rules.proofs.Document01.Results.{ok_same}
 use Rattle.rules.proofs.Document01.BytesWhole.{at_least, accepted_length, asked_by}
-use Rattle.request.specs.Parts.{code_ok, u32le_at, hertz_ok, hertz_at, flag_at, mco1_at, mco2_at, strategy_at, pll_ok, part_at, third_ok, third_at, plls_ok, formed, decoded}
+use Rattle.request.specs.Parts.{code_ok, u32le_at, hertz_ok, hertz_at, three_ok, flag_at, mco1_at, mco2_at, strategy_at, pll_ok, part_at, part_coded, third_hertz_ok, third_code_ok, third_at, clocks_ok, outputs_ok, plls_ok, formed, codes_ok, request_with, decoded, only}
 use Rattle.request.specs.Request.{part_of}
 use Rattle.rules.proofs.Document01.RefusalsOfCalls.{outside_codes}
-
--- refusal 1, unless a test holds
-abbrev only : {A : Type 0} → Bool → A → Result A Refusal
-only b x = cond b (Ok x) (Err OutsideCodes)
 
 -- a reader takes n bytes at any place where there are as many: the value there, if they are well-formed
 record Part {A : Type 0} (r : Reader A) (n : ℕ) (good : List ℕ → ℕ → Bool) (val : List ℕ → ℕ → A) : Type 0 where
@@ -108,7 +105,7 @@ unfolding strategy
 strategy_part = coded_part 2 (λ c. cond (eqb c 0) Integer Fractional)
 
 pll_part_is : Part pll_part 16 pll_ok part_at
-unfolding pll_part
+unfolding pll_part three_ok
 pll_part_is = record {
   reads = λ l i h.
       let p6 : i + 1 + 5 ≡ i + 6 = omega arith in
@@ -126,6 +123,9 @@ pll_part_is = record {
 }
 
 -- the PLL3 part, and the end
+abbrev third_ok : (three : Bool) → List ℕ → Bool
+third_ok three l = third_code_ok three l && third_hertz_ok three l
+
 third_part_is :
     {B : Type 0} (three : Bool) (l : List ℕ) (k : Read PllRequest → Result B Refusal) (y : B) → length l ≡ size_of three →
     ((rest : List ℕ) → rest ≡ [] → k (record { value = third_at three l; rest = rest }) ≡ Ok y) → Result.◌>>=◌ (third_part three (drop 90 l)) k ≡ only (third_ok three l) y
@@ -137,22 +137,35 @@ and_assoc : (a b c : Bool) → (a && b) && c ≡ a && (b && c)
 and_assoc true b c = refl
 and_assoc false b c = refl
 
--- the tests in groups, and in a row
+and_true : (a : Bool) → a && true ≡ a
+and_true true = refl
+and_true false = refl
+
+and_false : (a : Bool) → a && false ≡ false
+and_false true = refl
+and_false false = refl
+
+-- the tests in a row, and those on codes apart. A row: nine hertz, a flag, a source and a hertz twice, three parts
 regroup :
-    (a b c d e f g h i j k m n o p : Bool) →
-    a && (b && (c && (d && (e && (f && (g && (h && (i && (j && (k && (m && (n && (o && p)))))))))))))
-    ≡ ((a && (b && c)) && ((d && (e && f)) && (g && (h && i)))) && ((j && (k && (m && (n && o)))) && p)
-regroup a b c d e f g h i j k m n o p = simp and_assoc
+    (a b c d e f g h i j m o t u v k n p q r : Bool) →
+    a && (b && (c && (d && (e && (f && (g && (h && (i && (j && (k && (m && (n && (o && ((p && t) && ((q && u) && (r && v))))))))))))))))
+    ≡ (((a && (b && c)) && ((d && (e && f)) && (g && (h && i)))) && ((j && (m && o)) && (t && (u && v)))) && (k && (n && (p && (q && r))))
+regroup a b c d e f g h i j m o t u v true true true true true = simp (and_assoc, and_true)
+regroup a b c d e f g h i j m o t u v false n p q r = simp (and_assoc, and_false)
+regroup a b c d e f g h i j m o t u v true false p q r = simp (and_assoc, and_false)
+regroup a b c d e f g h i j m o t u v true true false q r = simp (and_assoc, and_false)
+regroup a b c d e f g h i j m o t u v true true true false r = simp (and_assoc, and_false)
+regroup a b c d e f g h i j m o t u v true true true true false = simp (and_assoc, and_false)
 
 module _ (three : Bool) (l : List ℕ) (size : length l ≡ size_of three) where
   long : 90 ≤ length l
   long = omega (arith, at_least three)
 
-  pub request_is : request_part three l ≡ only (formed three l) (record { value = decoded three l; rest = [] })
-  unfolding request_part formed decoded end
+  request_is : request_part three l ≡ only (formed three l && codes_ok three l) (record { value = decoded three l; rest = [] })
+  unfolding request_part formed clocks_ok outputs_ok plls_ok three_ok codes_ok decoded request_with end
   request_is =
       let n = long in
-      rw (← regroup (hertz_ok l 0) (hertz_ok l 5) (hertz_ok l 10) (hertz_ok l 15) (hertz_ok l 20) (hertz_ok l 25) (hertz_ok l 30) (hertz_ok l 35) (hertz_ok l 40) (code_ok 2 l 45) (code_ok 5 l 46) (hertz_ok l 47) (code_ok 6 l 52) (hertz_ok l 53) (plls_ok three l))
+      rw (← regroup (hertz_ok l 0) (hertz_ok l 5) (hertz_ok l 10) (hertz_ok l 15) (hertz_ok l 20) (hertz_ok l 25) (hertz_ok l 30) (hertz_ok l 35) (hertz_ok l 40) (code_ok 2 l 45) (hertz_ok l 47) (hertz_ok l 53) (three_ok l 59) (three_ok l 75) (third_hertz_ok three l) (code_ok 5 l 46) (code_ok 6 l 52) (code_ok 2 l 58) (code_ok 2 l 74) (third_code_ok three l))
       (stage hertz_part _ l 0 _ _ (omega arith) λ t0.
       stage hertz_part _ l 5 _ _ (omega arith) λ t1.
       stage hertz_part _ l 10 _ _ (omega arith) λ t2.
@@ -192,9 +205,22 @@ module _ (l : List ℕ) (chip : Chip) (state : ChipState) (known : chip_of chip 
     unfolding request_of
     bad_form t = rw (known, request_is state.three l size, t)
 
-    pub taken : formed state.three l ≡ true → ◌≡◌ {A = Result Asked Refusal} (Ok (record { request = decoded state.three l; chip = state })) (request_of l chip)
-    unfolding request_of
-    taken t = rw (known, request_is state.three l size, t)
+    module _ (good : formed state.three l ≡ true) where
+      abbrev asked_of : Result Request Refusal → Result Asked Refusal
+      asked_of (Ok q) = Ok (record { request = q; chip = state })
+      asked_of (Err n) = Err n
+
+      decoded_is : asked_of (only (codes_ok state.three l) (decoded state.three l)) ≡ request_of l chip
+      unfolding request_of
+      decoded_is =
+          by_test (codes_ok state.three l) (λ (t : codes_ok state.three l ≡ true). rw (known, request_is state.three l size, good, t))
+          (λ (t : codes_ok state.three l ≡ false). rw (known, request_is state.three l size, good, t))
+
+      pub taken : (q : Request) → Ok q ≡ only (codes_ok state.three l) (decoded state.three l) → ◌≡◌ {A = Result Asked Refusal} (Ok (record { request = q; chip = state })) (request_of l chip)
+      taken q e = ap asked_of e ∙ decoded_is
+
+      pub bad_code : (n : Refusal) → Err n ≡ only (codes_ok state.three l) (decoded state.three l) → ◌≡◌ {A = Result Asked Refusal} (Err n) (request_of l chip)
+      bad_code n e = ap asked_of e ∙ decoded_is
 
 -- ---- one PLL's part by itself
 module _ (l : List ℕ) where
@@ -206,15 +232,19 @@ module _ (l : List ℕ) where
     part_is : pll_part l ≡ only (pll_ok l 0) (record { value = part_at l 0; rest = drop 16 l })
     part_is = pll_part_is.reads l 0 (omega arith)
 
-    pub bad_part : pll_ok l 0 ≡ false → Err OutsideCodes ≡ part_of l
+    pub bad_part : three_ok l 1 ≡ false → Err OutsideCodes ≡ part_of l
     unfolding part_of
-    bad_part t = rw (eq-eqb (length l) 16 size, part_is, t)
+    bad_part t =
+        by_test (code_ok 2 l 0) (λ (c : code_ok 2 l 0 ≡ true). rw (eq-eqb (length l) 16 size, part_is, c, t))
+        (λ (c : code_ok 2 l 0 ≡ false). rw (eq-eqb (length l) 16 size, part_is, c))
 
-    pub part_taken : pll_ok l 0 ≡ true → ◌≡◌ {A = Result PllRequest Refusal} (Ok (part_at l 0)) (part_of l)
+    pub part_taken : three_ok l 1 ≡ true → part_coded l 0 ≡ part_of l
     unfolding part_of
-    part_taken t = rw (eq-eqb (length l) 16 size, part_is, t)
+    part_taken t =
+        by_test (code_ok 2 l 0) (λ (c : code_ok 2 l 0 ≡ true). rw (eq-eqb (length l) 16 size, part_is, c, t))
+        (λ (c : code_ok 2 l 0 ≡ false). rw (eq-eqb (length l) 16 size, part_is, c))
 
 -- what a request, and a part by itself, are read by
-pub ruleset reads = (all_bytes, bad_size, bad_form, taken)
+pub ruleset reads = (all_bytes, bad_size, bad_form, taken, bad_code)
 
 pub ruleset part_reads = (bad_part_size, bad_part, part_taken)

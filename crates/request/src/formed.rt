@@ -1,18 +1,18 @@
-// Whether the bytes are well-formed, by places. What is wrong is gathered as a number by `|`, 0 for nothing, and tested once: a branch at each byte
-// would cost more than it spares, as most requests are well-formed.
+// Whether the hertz and the bypass flag are well-formed, by places. What is wrong is gathered as a number by `|`, 0 for nothing, and tested once: a
+// branch at each byte would cost more than it spares, as most requests are well-formed.
 ghost use Rattle.std.specs.Prelude.{◌≡◌, ◌+◌, ◌≤◌, length};
 ghost use Rattle.rules.specs.Document01.Bytes.{size_of};
 ghost use Rattle.request.specs.Parts as Parts;
-ghost use Rattle.request.specs.Parts.{Finds, code_ok, hertz_is, hertz_ok, three_ok, pll_ok, third_ok, clocks_ok, outputs_ok, plls_ok};
+ghost use Rattle.request.specs.Parts.{Finds, code_ok, hertz_is, hertz_ok, three_ok, third_hertz_ok, clocks_ok, outputs_ok, plls_ok};
 
 use crate::parts;
 
-// A code: a byte below n.
-fn code(b: &[u8], at: usize, n: u8) -> u32
+// A flag: a byte below 2.
+fn flag(b: &[u8], at: usize) -> u32
     requires { at + 1 ≤ length b.now }
-    ensures { Finds result (code_ok n b.now at) }
+    ensures { Finds result (code_ok 2 b.now at) }
 {
-    (n <= b[at]) as u32
+    (2 <= b[at]) as u32
 }
 
 // 0 and the number 0, or 1 and any number.
@@ -36,7 +36,7 @@ fn hertz(b: &[u8], at: usize) -> u32
 }
 
 // Three hertz in a row.
-#[tactic(auto, using(crate::proofs::Wrong::both))]
+#[tactic(auto, using(crate::proofs::Wrong::both), unfolding(crate::specs::Parts::three_ok))]
 fn three(b: &[u8], at: usize) -> u32
     requires { at + 15 ≤ length b.now }
     ensures { Finds result (three_ok b.now at) }
@@ -44,26 +44,18 @@ fn three(b: &[u8], at: usize) -> u32
     hertz(b, at) | (hertz(b, at + 5) | hertz(b, at + 10))
 }
 
-// A PLL's part.
-#[tactic(auto, using(crate::proofs::Wrong::both))]
-fn pll(b: &[u8], at: usize) -> u32
-    requires { at + 16 ≤ length b.now }
-    ensures { Finds result (pll_ok b.now at) }
-{
-    code(b, at, 2) | three(b, at + 1)
-}
-
-// The PLL3 part, where there is one.
+// P, Q and R of the PLL3 part, where there is one.
 fn third(b: &[u8], there: bool) -> u32
     requires { size_of there ≤ length b.now }
-    ensures { Finds result (third_ok there b.now) }
+    ensures { Finds result (third_hertz_ok there b.now) }
 {
     if there {
-        return pll(b, 90);
+        return three(b, 91);
     }
     0
 }
 
+#[tactic(auto, using(crate::proofs::Wrong::both), unfolding(crate::specs::Parts::clocks_ok))]
 fn clocks(b: &[u8]) -> u32
     requires { 90 ≤ length b.now }
     ensures { Finds result (clocks_ok b.now) }
@@ -71,22 +63,25 @@ fn clocks(b: &[u8]) -> u32
     three(b, 0) | (three(b, 15) | three(b, 30))
 }
 
-// The bypass flag, and MCO1 and MCO2 with their sources.
+// The bypass flag, and the hertz of MCO1 and MCO2.
+#[tactic(auto, using(crate::proofs::Wrong::both), unfolding(crate::specs::Parts::outputs_ok))]
 fn outputs(b: &[u8]) -> u32
     requires { 90 ≤ length b.now }
     ensures { Finds result (outputs_ok b.now) }
 {
-    code(b, 45, 2) | (code(b, 46, 5) | (hertz(b, 47) | (code(b, 52, 6) | hertz(b, 53))))
+    flag(b, 45) | (hertz(b, 47) | hertz(b, 53))
 }
 
+#[tactic(auto, using(crate::proofs::Wrong::both), unfolding(crate::specs::Parts::plls_ok))]
 fn plls(b: &[u8], there: bool) -> u32
     requires { (90 ≤ length b.now) × (size_of there ≤ length b.now) }
     ensures { Finds result (plls_ok there b.now) }
 {
-    pll(b, 58) | (pll(b, 74) | third(b, there))
+    three(b, 59) | (three(b, 75) | third(b, there))
 }
 
 // The whole request.
+#[tactic(auto, using(crate::proofs::Wrong::both), unfolding(crate::specs::Parts::formed))]
 pub fn formed(b: &[u8], there: bool) -> bool
     requires { (90 ≤ length b.now) × (size_of there ≤ length b.now) }
     ensures { result ≡ Parts.formed there b.now }
@@ -94,10 +89,10 @@ pub fn formed(b: &[u8], there: bool) -> bool
     (clocks(b) | (outputs(b) | plls(b, there))) == 0
 }
 
-// One PLL's part.
-pub fn pll_formed(b: &[u8], at: usize) -> bool
+// P, Q and R of one PLL's part.
+pub fn part_formed(b: &[u8], at: usize) -> bool
     requires { at + 16 ≤ length b.now }
-    ensures { result ≡ pll_ok b.now at }
+    ensures { result ≡ three_ok b.now (at + 1) }
 {
-    pll(b, at) == 0
+    three(b, at + 1) == 0
 }

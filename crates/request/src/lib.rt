@@ -20,7 +20,7 @@ pub fn size_of(three: bool) -> usize
 }
 
 // The request that the bytes stand for, and the chip that the numbers stand for, or refusal 1.
-#[tactic(auto, using(crate::proofs::Reading::reads))]
+#[tactic(auto, using(crate::proofs::Reading::reads), unfolding(rules::specs::Document01::Plan::request_of))]
 pub fn read_request(bytes: &[u8], chip: Chip) -> Result<Asked, Refusal>
     ensures { result ≡ request_of bytes.now chip }
 {
@@ -31,7 +31,7 @@ pub fn read_request(bytes: &[u8], chip: Chip) -> Result<Asked, Refusal>
     if !formed::formed(bytes, chip.three) {
         return Err(Refusal::OutsideCodes);
     }
-    let request = parts::decode(bytes, chip.three);
+    let request = parts::decode(bytes, chip.three)?;
     Ok(Asked { request, chip })
 }
 
@@ -46,8 +46,8 @@ pub fn read_part(bytes: &[u8]) -> Result<PllRequest, Refusal>
     if bytes.len() != PART {
         return Err(Refusal::OutsideCodes);
     }
-    if !formed::pll_formed(bytes, 0) {
+    if !formed::part_formed(bytes, 0) {
         return Err(Refusal::OutsideCodes);
     }
-    Ok(parts::part_at(bytes, 0))
+    parts::part_at(bytes, 0)
 }

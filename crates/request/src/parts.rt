@@ -1,9 +1,9 @@
-// What the bytes stand for, by places.
+// What the bytes stand for, by places: a code that is none is refused where it is read.
 ghost use Rattle.std.specs.Prelude.{◌≡◌, ◌+◌, ◌*◌, ◌<◌, ◌≤◌, length};
 ghost use Rattle.rules.specs.Document01.Bytes.{no_part, size_of};
-ghost use Rattle.request.specs.Parts.{u32le_at, hertz_at, mco1_at, mco2_at, strategy_at, part_at, third_at, decoded};
+ghost use Rattle.request.specs.Parts.{u32le_at, hertz_at, part_coded, third_coded, plls_at, strategies_ok, request_with, codes_ok, decoded, only};
 
-use types::{Mco1Source, Mco2Source, PllRequest, Request, Strategy};
+use types::{Mco1Source, Mco2Source, PllRequest, Refusal, Request, Strategy};
 
 // Four bytes, little-endian.
 #[tactic(auto, unfolding(crate::specs::Parts::u32le_at))]
@@ -23,54 +23,18 @@ fn hertz_at(b: &[u8], at: usize) -> Option<u32>
     if b[at] == 0 { None } else { Some(number) }
 }
 
-fn mco1_at(b: &[u8], at: usize) -> Mco1Source
-    requires { at < length b.now }
-    ensures { result ≡ mco1_at b.now at }
-{
-    match b[at] {
-        1 => Mco1Source::Lse,
-        2 => Mco1Source::Hse,
-        3 => Mco1Source::Pll1Q,
-        4 => Mco1Source::Hsi48,
-        _ => Mco1Source::Hsi,
-    }
-}
-
-fn mco2_at(b: &[u8], at: usize) -> Mco2Source
-    requires { at < length b.now }
-    ensures { result ≡ mco2_at b.now at }
-{
-    match b[at] {
-        1 => Mco2Source::Pll2P,
-        2 => Mco2Source::Hse,
-        3 => Mco2Source::Pll1P,
-        4 => Mco2Source::Csi,
-        5 => Mco2Source::Lsi,
-        _ => Mco2Source::Sysclk,
-    }
-}
-
-fn strategy_at(b: &[u8], at: usize) -> Strategy
-    requires { at < length b.now }
-    ensures { result ≡ strategy_at b.now at }
-{
-    if b[at] == 0 {
-        Strategy::Integer
-    } else {
-        Strategy::Fractional
-    }
-}
-
-pub fn part_at(b: &[u8], at: usize) -> PllRequest
+// A PLL's part.
+#[tactic(auto, using(types::proofs::Coded::coded_is))]
+pub fn part_at(b: &[u8], at: usize) -> Result<PllRequest, Refusal>
     requires { at + 16 ≤ length b.now }
-    ensures { result ≡ part_at b.now at }
+    ensures { result ≡ part_coded b.now at }
 {
-    PllRequest {
-        strategy: strategy_at(b, at),
+    Ok(PllRequest {
+        strategy: Strategy::try_from(b[at])?,
         p: hertz_at(b, at + 1),
         q: hertz_at(b, at + 6),
         r: hertz_at(b, at + 11),
-    }
+    })
 }
 
 // No PLL3 part.
@@ -86,18 +50,30 @@ fn no_part() -> PllRequest
 }
 
 // The PLL3 part, where there is one.
-fn third_at(b: &[u8], three: bool) -> PllRequest
+fn third_at(b: &[u8], three: bool) -> Result<PllRequest, Refusal>
     requires { size_of three ≤ length b.now }
-    ensures { result ≡ third_at three b.now }
+    ensures { result ≡ third_coded three b.now }
 {
-    if three { part_at(b, 90) } else { no_part() }
+    if three { part_at(b, 90) } else { Ok(no_part()) }
 }
 
-// The whole request.
-#[tactic(auto, unfolding(crate::specs::Parts::decoded))]
-pub fn decode(b: &[u8], three: bool) -> Request
+fn plls_at(b: &[u8], three: bool) -> Result<[PllRequest; 3], Refusal>
     requires { (90 ≤ length b.now) × (size_of three ≤ length b.now) }
-    ensures { result ≡ decoded three b.now }
+    ensures { result ≡ only (strategies_ok three b.now) (plls_at three b.now) }
+{
+    Ok([part_at(b, 58)?, part_at(b, 74)?, third_at(b, three)?])
+}
+
+// A request by its sources and PLLs: what else it has is read from its bytes.
+#[tactic(auto, unfolding(crate::specs::Parts::request_with))]
+fn request_with(
+    b: &[u8],
+    mco1source: Mco1Source,
+    mco2source: Mco2Source,
+    plls: [PllRequest; 3],
+) -> Request
+    requires { 90 ≤ length b.now }
+    ensures { result ≡ request_with b.now mco1source mco2source plls }
 {
     Request {
         hse: hertz_at(b, 0),
@@ -110,10 +86,22 @@ pub fn decode(b: &[u8], three: bool) -> Request
         apb2: hertz_at(b, 35),
         apb3: hertz_at(b, 40),
         bypass: b[45] == 1,
-        mco1source: mco1_at(b, 46),
+        mco1source,
         mco1: hertz_at(b, 47),
-        mco2source: mco2_at(b, 52),
+        mco2source,
         mco2: hertz_at(b, 53),
-        plls: [part_at(b, 58), part_at(b, 74), third_at(b, three)],
+        plls,
     }
+}
+
+// The whole request, or refusal 1 for a code that is none.
+#[tactic(auto, using(types::proofs::Coded::coded_is, crate::proofs::Decoding::decodes), unfolding(crate::specs::Parts::codes_ok))]
+pub fn decode(b: &[u8], three: bool) -> Result<Request, Refusal>
+    requires { (90 ≤ length b.now) × (size_of three ≤ length b.now) }
+    ensures { result ≡ only (codes_ok three b.now) (decoded three b.now) }
+{
+    let mco1source = Mco1Source::try_from(b[46])?;
+    let mco2source = Mco2Source::try_from(b[52])?;
+    let plls = plls_at(b, three)?;
+    Ok(request_with(b, mco1source, mco2source, plls))
 }

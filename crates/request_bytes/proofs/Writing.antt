@@ -134,7 +134,14 @@ module _ (three : Bool) (q : Request) where
     all_stored t m s =
         (sym t, rw t (whole l m (request_bytes three q) (rw (groups three q) at s) (written_length three q ∙ sym (room_of (length l) t))))
 
+    -- the three groups, one after the other
+    pub all_put :
+        {m n o : List ℕ} → Stored l m 0 (clocks_bytes q) → Stored m n 45 (outputs_bytes q) → Stored n o 58 (plls_bytes three q) →
+        true ≡ is_written three q (length l) → o ≡ room_after three q l
+    all_put a b c t =
+        (all_stored (sym t) _ (then 45 a (then 58 b c (omega (arith, outputs_length q))) (omega (arith, clocks_length q)))).1
+
 -- the bypass flag and the clock outputs, and the whole
 pub ruleset outputs = (then, run, flag_is, source1_is, source2_is, hertz_length)
 
-pub ruleset writing = (then, clocks_length, outputs_length, not_written, room_of, long_room, all_stored)
+pub ruleset writing = (then, clocks_length, outputs_length, not_written, room_of, long_room, all_put)

@@ -22,6 +22,7 @@ const PIN_LPWR: u32 = PIN + 32;
 const PIN_IWDG_WWDG: u32 = PIN + 8 + 16;
 
 // The reason by the six flags, on two PLLs.
+#[tactic(auto, using(crate::proofs::High::high_is))]
 fn reason_of(word: u32) -> ResetReason
     ensures { result ≡ reason_of false word }
 {

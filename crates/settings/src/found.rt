@@ -4,12 +4,28 @@ ghost use Rattle.std.specs.Prelude.{◌<◌, IfSome};
 use ask::WrongWord;
 use types::{Plan, PllSettings, Refusal};
 
-// Twelve columns a name: of a PLL its settings, the dividers of P and Q, and the hertz of P.
-const NAMES: [u8; 228] =
-    *b"refused     pll1.vcosel pll1.m      pll1.n      pll1.divp   pll2.vcosel \
-    pll2.target pll2.m      pll2.ref    pll2.n      pll2.fracn  pll2.vco    \
-    pll2.divp   pll2.divq   pll2.hertz  latency     ahb         hpre        \
-    mco1pre     ";
+// The names of the numbers: of a PLL its settings, the dividers of P and Q, and the hertz of P.
+const NAMES: [&str; 19] = [
+    "refused",
+    "pll1.vcosel",
+    "pll1.m",
+    "pll1.n",
+    "pll1.divp",
+    "pll2.vcosel",
+    "pll2.target",
+    "pll2.m",
+    "pll2.ref",
+    "pll2.n",
+    "pll2.fracn",
+    "pll2.vco",
+    "pll2.divp",
+    "pll2.divq",
+    "pll2.hertz",
+    "latency",
+    "ahb",
+    "hpre",
+    "mco1pre",
+];
 
 // A template with its numbers, over these names.
 pub fn line(form: &[u8], numbers: &[u64]) {
@@ -70,6 +86,5 @@ pub fn on(chip: &[u8], request: &[u8]) -> Result<[u32; 19], WrongWord> {
     let mut sheet = sheet::fresh();
     ask::take_all(&mut sheet, chip)?;
     ask::take_all(&mut sheet, request)?;
-    let n = sheet::request_length(&sheet);
-    Ok(numbers(rcc::plan(&sheet[..n], sheet::chip(&sheet))))
+    Ok(numbers(rcc::plan(sheet::request(&sheet), sheet::chip(&sheet))))
 }

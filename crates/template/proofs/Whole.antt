@@ -12,7 +12,7 @@ use Rattle.template.specs.Template.{begins, next, writes, state_after, text_afte
 use Rattle.template.proofs.Written.{nothing, and_then}
 use Rattle.template.proofs.Reading.{small}
 
-module _ (template names numbers : List ℕ) where
+module _ (template : List ℕ) (names : List (List ℕ)) (numbers : List ℕ) where
   -- the first i bytes are read: the state, and what is written
   pub record Going (o p : Out) (s : State) (i : ℕ) : Type 0 where
     pub state : s ≡ state_after template names numbers i

@@ -1,15 +1,18 @@
 -- Laws on texts written one behind the other, as far as there is room.
 use mathlib.Core.Path.{◌≡◌, refl, sym, ap, ◌∙◌}
 use mathlib.Core.List.{List, [], ◌++◌}
-use Prim.Native.Nat.{ℕ, ◌+◌}
+use Prim.Native.Nat.{ℕ, ◌+◌, ◌-◌, min}
 use native.Mathlib.Omega.{arith}
 use lib.Dec.{ltb}
-use lib.ListN.{length, length-append}
-use lib.Seq.{length-sets}
+use lib.ListN.{length, replicate, length-append, length-replicate}
+use lib.Seq.{sets, length-sets}
+use borrow.Rule.Slice.PartMut.{put_mid}
+use Rattle.std.proofs.lemmas.List.{take-replicate}
 use borrow.Author.Tests.{ltb-true, ltb-false}
 use Rattle.laws.proofs.Tests.{by_test}
-use Rattle.text.proofs.Stores.{past, joined}
+use Rattle.text.proofs.Stores.{past, joined, stored}
 use Rattle.template.specs.declared.out.Out.{Out}
+use Rattle.text.specs.Names.{column}
 use Rattle.template.specs.Write.{Wrote}
 
 -- nothing
@@ -36,3 +39,12 @@ and_then {o} {p} {q} {a} {b} v w =
       place = rw length-append (omega arith);
       same = w.same ∙ v.same;
     }
+
+-- a name, and blanks behind it up to twelve columns
+pub in_column : {o p q : Out} {s : List ℕ} (n : ℕ) → n ≡ 12 - length s → Wrote o p s → Wrote p q (replicate n 32) → Wrote o q (column s)
+in_column n e v w = and_then v (rw e at w)
+
+-- blanks, as far as there is room
+pub filled : (o : Out) (count n : ℕ) → n ≡ min count (length o.room.now - o.at) → put_mid o.at (o.at + n - o.at) o.room.now (replicate n 32) ≡ sets o.room.now o.at (replicate count 32)
+filled o count n e =
+    stored o.room.now o.at (replicate count 32) n (rw length-replicate e) o.within (sym (take-replicate n count 32 (omega arith)))

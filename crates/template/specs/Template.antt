@@ -4,9 +4,8 @@
 --   {k#}    the name with number k        {k|}    the same, blanks behind it up to twelve columns
 --   {k?}    what follows is written only where number k is not 0, {k!} only where it is 0, {.} in any case
 use Rattle.std.specs.Prelude.{Bool, true, cond, List, [], ◌∷◌, ◌++◌, ℕ, zero, suc, ◌%◌, ltb, eqb, length, get_or}
-use Rattle.text.specs.Names.{before}
 use Rattle.text.specs.Numbers.{is_digit, with_digit}
-use Rattle.template.specs.Write.{decimal_of, aligned, name_of}
+use Rattle.template.specs.Write.{decimal_of, aligned, name_of, column_of}
 use Rattle.template.specs.declared.Stage.{Stage}
 use Rattle.template.specs.declared.Stage.TheVariants.{Text, Braces, Done}
 use Rattle.template.specs.declared.State.{State}
@@ -41,22 +40,22 @@ unfoldable pub next : (n : ℕ) → State → (b : ℕ) → State
 next n s b = next_at s.stage n s b
 
 -- what a command writes
-unfoldable pub command_writes : (names : List ℕ) → (n width b : ℕ) → List ℕ
+unfoldable pub command_writes : (names : List (List ℕ)) → (n width b : ℕ) → List ℕ
 command_writes names n width b =
-    cond (eqb b 125) (aligned width (decimal_of n)) (cond (eqb b 35) (before 32 (name_of names n)) (cond (eqb b 124) (name_of names n) []))
+    cond (eqb b 125) (aligned width (decimal_of n)) (cond (eqb b 35) (name_of names n) (cond (eqb b 124) (column_of names n) []))
 
 -- what a byte writes, at each stage
-abbrev pub writes_at : Stage → (names : List ℕ) → (n : ℕ) → State → (b : ℕ) → List ℕ
+abbrev pub writes_at : Stage → (names : List (List ℕ)) → (n : ℕ) → State → (b : ℕ) → List ℕ
 writes_at Text names n s b = cond (eqb b 123) [] (b ∷ [])
 writes_at Braces names n s b = command_writes names n s.width b
 writes_at Done names n s b = []
 
 -- nothing where it is not shown
-unfoldable pub writes : (names : List ℕ) → (n : ℕ) → State → (b : ℕ) → List ℕ
+unfoldable pub writes : (names : List (List ℕ)) → (n : ℕ) → State → (b : ℕ) → List ℕ
 writes names n s b = cond s.shown (writes_at s.stage names n s b) []
 
 -- ---- a whole template
-module _ (template names numbers : List ℕ) where
+module _ (template : List ℕ) (names : List (List ℕ)) (numbers : List ℕ) where
   -- the state behind its first i bytes
   unfoldable pub state_after : (i : ℕ) → State
   state_after zero = begins

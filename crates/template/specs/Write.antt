@@ -1,7 +1,7 @@
 -- Bytes written one behind the other, as far as there is room.
-use Rattle.std.specs.Prelude.{◌≡◌, cond, List, [], ◌∷◌, ◌++◌, ℕ, zero, suc, ◌+◌, ◌-◌, ◌/◌, ◌%◌, min, ltb, length, replicate}
+use Rattle.std.specs.Prelude.{◌≡◌, cond, List, [], ◌∷◌, ◌++◌, ℕ, zero, suc, ◌+◌, ◌-◌, ◌/◌, ◌%◌, min, ltb, length, get_or, replicate}
 use Rattle.std.proofs.lemmas.List.Edits.{sets}
-use Rattle.text.specs.Names.{column_at}
+use Rattle.text.specs.Names.{column}
 use Rattle.template.specs.declared.out.Out.{Out}
 
 -- a text written behind what is there: what the room holds then, and the place behind the text, or the room's end. It is the same room
@@ -23,6 +23,10 @@ decimal_of n = digits_of 19 n
 abbrev pub aligned : (w : ℕ) → List ℕ → List ℕ
 aligned w s = replicate (w - length s) 32 ++ s
 
--- name n of a table, with the blanks behind it; nothing where there is none
-unfoldable pub name_of : (names : List ℕ) → (n : ℕ) → List ℕ
-name_of names n = cond (ltb n (length names / 12)) (column_at names n) []
+-- name n of a table; nothing where there is none
+abbrev pub name_of : (names : List (List ℕ)) → (n : ℕ) → List ℕ
+name_of names n = get_or names n []
+
+-- the same with blanks behind it up to twelve columns; nothing where there is none
+unfoldable pub column_of : (names : List (List ℕ)) → (n : ℕ) → List ℕ
+column_of names n = cond (ltb n (length names)) (column (name_of names n)) []

@@ -3,6 +3,7 @@
 
 ghost use Rattle.std.specs.Prelude.{◌≡◌, ◌<◌, min, length, get_or};
 ghost use Rattle.std.proofs.lemmas.List.Edits.{sets};
+ghost use Rattle.text.specs.Names.{texts_of};
 ghost use Rattle.template.specs.Write.{Wrote};
 ghost use Rattle.template.specs.Template.{at_stage, shown_by, in_braces, next, command_writes, writes, filled};
 
@@ -89,8 +90,8 @@ fn next_state(n: u64, s: State, b: u8) -> State
 
 // What a command writes.
 #[tactic(auto, unfolding(crate::specs::Template::command_writes))]
-fn command(names: &[u8], n: u64, width: usize, b: u8, out: &mut Out)
-    ensures { Wrote out.old out.new (command_writes names.now n width b) }
+fn command(names: &[&str], n: u64, width: usize, b: u8, out: &mut Out)
+    ensures { Wrote out.old out.new (command_writes (texts_of names.now) n width b) }
 {
     match b {
         b'}' => out.decimal(width, n),
@@ -102,8 +103,8 @@ fn command(names: &[u8], n: u64, width: usize, b: u8, out: &mut Out)
 
 // What a byte writes.
 #[tactic(auto, unfolding(crate::specs::Template::writes))]
-fn act(names: &[u8], n: u64, s: State, b: u8, out: &mut Out)
-    ensures { Wrote out.old out.new (writes names.now n s b) }
+fn act(names: &[&str], n: u64, s: State, b: u8, out: &mut Out)
+    ensures { Wrote out.old out.new (writes (texts_of names.now) n s b) }
 {
     if !s.shown {
         return;
@@ -125,8 +126,8 @@ fn number_at(numbers: &[u64], k: usize) -> u64
 }
 
 // Writes what a template comes to.
-fn write_all(template: &[u8], names: &[u8], numbers: &[u64], out: &mut Out)
-    ensures { Wrote out.old out.new (filled template.now names.now numbers.now) }
+fn write_all(template: &[u8], names: &[&str], numbers: &[u64], out: &mut Out)
+    ensures { Wrote out.old out.new (filled template.now (texts_of names.now) numbers.now) }
 {
     let mut s = at_stage(Stage::Text, true);
     for b in template {
@@ -137,9 +138,9 @@ fn write_all(template: &[u8], names: &[u8], numbers: &[u64], out: &mut Out)
 }
 
 // Writes what a template comes to at the start of out, as far as there is room, and answers how many bytes that is.
-pub fn fill(template: &[u8], names: &[u8], numbers: &[u64], out: &mut [u8]) -> usize
-    ensures text { out.new ≡ sets out.old 0 (filled template.now names.now numbers.now) }
-    ensures count { result ≡ min (length (filled template.now names.now numbers.now)) (length out.old) }
+pub fn fill(template: &[u8], names: &[&str], numbers: &[u64], out: &mut [u8]) -> usize
+    ensures text { out.new ≡ sets out.old 0 (filled template.now (texts_of names.now) numbers.now) }
+    ensures count { result ≡ min (length (filled template.now (texts_of names.now) numbers.now)) (length out.old) }
 {
     let mut page = Out { room: out, at: 0 };
     write_all(template, names, numbers, &mut page);

@@ -1,7 +1,7 @@
 // Bytes written one behind the other, as far as there is room.
-ghost use Rattle.std.specs.Prelude.{◌≡◌, [], ◌∷◌, ◌≤◌, ◌<◌, length, drop, replicate};
-ghost use Rattle.text.specs.Names.{before};
-ghost use Rattle.template.specs.Write.{Wrote, decimal_of, aligned, name_of};
+ghost use Rattle.std.specs.Prelude.{◌≡◌, [], ◌∷◌, ◌≤◌, ◌<◌, length, drop, replicate, MatchOption};
+ghost use Rattle.text.specs.Names.{column, texts_of};
+ghost use Rattle.template.specs.Write.{Wrote, decimal_of, aligned, name_of, column_of};
 
 use crate::out::Out;
 
@@ -37,23 +37,36 @@ impl Out<'_> {
         self.copy(&row[from..]);
     }
 
-    // Name n of a table, with the blanks behind it.
-    pub fn column(&mut self, names: &[u8], n: u64)
-        ensures { Wrote self.old self.new (name_of names.now n) }
+    // Name n of a table; nothing where there is none.
+    pub fn name(&mut self, names: &[&str], n: u64)
+        ensures { Wrote self.old self.new (name_of (texts_of names.now) n) }
     {
-        self.copy(name_of(names, n));
+        if let Some(name) = name_at(names, n) {
+            self.copy(name.as_bytes());
+        }
     }
 
-    // The same without them.
-    pub fn name(&mut self, names: &[u8], n: u64)
-        ensures { Wrote self.old self.new (before 32 (name_of names.now n)) }
+    // A name, and blanks behind it up to twelve columns.
+    fn in_column(&mut self, name: &str)
+        ensures { Wrote self.old self.new (column name.now) }
     {
-        let column = name_of(names, n);
-        self.copy(&column[..text::find(column, b' ')]);
+        self.copy(name.as_bytes());
+        self.blanks(12usize.saturating_sub(name.len()));
+    }
+
+    // The same of name n of a table; nothing where there is none.
+    #[tactic(auto, unfolding(crate::specs::Write::column_of))]
+    pub fn column(&mut self, names: &[&str], n: u64)
+        ensures { Wrote self.old self.new (column_of (texts_of names.now) n) }
+    {
+        if let Some(name) = name_at(names, n) {
+            self.in_column(name);
+        }
     }
 }
 
 // The digits of n at the end of a row of twenty; how many bytes of the row stand before them.
+#[tactic(auto, using(crate::proofs::Digits::begins))]
 fn digits(n: u64, row: &mut [u8; 20]) -> usize
     ensures { (result < 20) × (drop result row.new ≡ decimal_of n) }
 {
@@ -68,14 +81,9 @@ fn digits(n: u64, row: &mut [u8; 20]) -> usize
     0
 }
 
-// Name n of a table, with the blanks behind it; nothing where there is none.
-#[tactic(auto, unfolding(crate::specs::Write::name_of))]
-fn name_of(names: &[u8], n: u64) -> &[u8]
-    ensures { result.now ≡ name_of names.now n }
+// Name n of a table.
+fn name_at<'a>(names: &[&'a str], n: u64) -> Option<&'a str>
+    ensures { MatchOption result (length names.now ≤ n) (λ name. (n < length names.now) × (name.now ≡ name_of (texts_of names.now) n)) }
 {
-    if n < (names.len() / 12) as u64 {
-        let from = 12 * n as usize;
-        return &names[from..from + 12];
-    }
-    &[]
+    names.get(n as usize).copied()
 }

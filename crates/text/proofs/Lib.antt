@@ -1,5 +1,4 @@
 pub mod Parts
 pub mod Stores
-pub mod Least
 pub mod Named
 pub mod Digits

@@ -1,56 +1,86 @@
--- Laws on names: a column and a name compared byte by byte, and the names of a table one after the other.
+-- A name in its column, compared with a given name.
 use mathlib.Core.Path.{◌≡◌, refl, sym, ap, ◌∙◌}
-use mathlib.Core.Bool.{true, false, ◌&&◌}
-use mathlib.Core.List.{List, [], ◌∷◌}
-use Prim.Native.Nat.{ℕ, ◌+◌, ◌-◌, ◌*◌, ◌/◌, ◌≤◌, ◌<◌}
+use mathlib.Core.Bool.{Bool, true, false, not, ◌&&◌}
+use mathlib.Core.List.{List, [], ◌∷◌, ◌++◌}
+use Prim.Native.Nat.{ℕ, zero, suc, ◌+◌, ◌-◌, ◌≤◌, ◌<◌, min, max}
 use native.Mathlib.Omega.{arith}
 use lib.Dec.{eqb}
-use lib.ListN.{length, take, drop}
-use borrow.Author.Tests.{eq-eqb, ne_eqb, eqb-true, eqb-false}
-use Rattle.std.specs.List.{starts_with, list_all}
+use lib.ListN.{length, take, drop, replicate, length-map}
+use borrow.Author.Tests.{eq-eqb, ne_eqb, eqb-true, eqb-false, not-true, not-false}
 use borrow.Author.Rules.{part_to_end}
+use lib.Pointwise.{pointwise}
+use Rattle.std.specs.List.{list_all, position_or_len}
+use Rattle.std.proofs.Common.{Option, map, position}
 use Rattle.laws.proofs.Tests.{by_test}
-use Rattle.text.specs.Names.{is_name, column_at, number_in, least}
-use Rattle.text.proofs.Least.{one_more, passes}
-use Rattle.std.proofs.Common.{Some, None}
+use Rattle.text.specs.Names.{is_name, column, number_in}
 
--- a name at the start, and blanks behind it
-pub name_parts : (column name : List ℕ) → is_name column name ≡ starts_with eqb column name && list_all (λ b. eqb b 32) (drop (length name) column)
+abbrev Blank : ℕ → Bool
+Blank b = eqb b 32
+
+swapped : (a b : ℕ) → eqb a b ≡ eqb b a
+swapped a b = by_test (eqb b a) (λ (t : eqb b a ≡ true). rw t (eq-eqb a b (sym (eqb-true b a t)))) (λ (f : eqb b a ≡ false). rw f (ne_eqb a b (λ e. eqb-false b a f (sym e))))
+
+-- ---- a listed name n with k blanks behind it
+-- nothing is given: n is blank
+of_nothing : (n : List ℕ) (k : ℕ) → is_name (n ++ replicate k 32) [] ≡ list_all Blank n
 unfolding is_name
-name_parts [] [] = refl
-name_parts [] (x ∷ name) = refl
-name_parts (c ∷ column) [] = ap (λ t. eqb c 32 && t) (name_parts column [])
-name_parts (c ∷ column) (x ∷ name) =
-    by_test (eqb c x)
-    (λ (t : eqb c x ≡ true). let e : eqb x c ≡ true = eq-eqb x c (sym (eqb-true c x t)) in rw (t, e) (name_parts column name))
-    (λ (f : eqb c x ≡ false). let e : eqb x c ≡ false = ne_eqb x c (λ q. eqb-false c x f (sym q)) in rw (f, e))
+of_nothing [] zero = refl
+of_nothing [] (suc k) = of_nothing [] k
+of_nothing (c ∷ n) k = ap (λ t. eqb c 32 && t) (of_nothing n k)
 
--- behind it
-pub name_behind : (column name : List ℕ) → starts_with eqb column name ≡ true →
-    list_all (λ b. eqb b 32) (take (length column - length name) (drop (length name) column)) ≡ is_name column name
-name_behind column name h = sym (name_parts column name ∙ rw (h, part_to_end column (length name)))
+-- nothing is listed: the given one is blank
+of_blanks : (name : List ℕ) (k : ℕ) → length name ≤ k → is_name (replicate k 32) name ≡ list_all Blank name
+unfolding is_name
+of_blanks [] k h = of_nothing [] k
+of_blanks (x ∷ name) zero h = absurd (omega arith)
+of_blanks (x ∷ name) (suc k) h = rw (swapped 32 x, of_blanks name k (omega arith))
 
--- ---- none of the first k names of a table is the name
-abbrev pub Passed : (names name : List ℕ) → (k : ℕ) → Type 0
-Passed names name k = least (λ j. is_name (column_at names j) name) k ≡ None
+-- both: up to the shorter one's end they are the same, and what is left of either is blank
+parts_at : (n name : List ℕ) (k m : ℕ) → m ≡ min (length n) (length name) → length name ≤ length n + k →
+    is_name (n ++ replicate k 32) name ≡ pointwise eqb (take m n) (take m name) && (list_all Blank (drop m n) && list_all Blank (drop m name))
+unfolding is_name
+parts_at [] name k zero e h = of_blanks name k (omega arith)
+parts_at [] name k (suc m) e h = absurd (omega arith)
+parts_at (c ∷ n) [] k zero e h = rw (of_nothing (c ∷ n) k) (by_test (list_all Blank (c ∷ n)) (λ t. rw t) (λ t. rw t))
+parts_at (c ∷ n) [] k (suc m) e h = absurd (omega arith)
+parts_at (c ∷ n) (x ∷ name) k zero e h = absurd (omega arith)
+parts_at (c ∷ n) (x ∷ name) k (suc m) e h =
+    by_test (eqb c x) (λ (t : eqb c x ≡ true). rw t (parts_at n name k m (omega arith) (omega arith))) (λ (f : eqb c x ≡ false). rw f)
 
-module _ (names name : List ℕ) where
-  pub none_passed : Passed names name 0
-  unfolding least
-  none_passed = refl
+long_at : (n name : List ℕ) (k : ℕ) → length n + k < length name → is_name (n ++ replicate k 32) name ≡ false
+unfolding is_name
+long_at n [] k h = absurd (omega arith)
+long_at [] (x ∷ name) zero h = refl
+long_at [] (x ∷ name) (suc k) h = rw (long_at [] name k (omega arith)) (by_test (eqb 32 x) (λ t. rw t) (λ t. rw t))
+long_at (c ∷ n) (x ∷ name) k h = rw (long_at n name k (omega arith)) (by_test (eqb c x) (λ t. rw t) (λ t. rw t))
 
-  module _ (k : ℕ) (g : Passed names name k) where
-    -- the name in the columns from 12 k on
-    column_here : is_name (take (12 * k + 12 - 12 * k) (drop (12 * k) names)) name ≡ is_name (column_at names k) name
-    column_here = let e : 12 * k + 12 - 12 * k ≡ 12 = omega arith in rw e
+-- ---- in its column
+module _ (n name : List ℕ) (m : ℕ) (e : m ≡ min (length n) (length name)) (h : length name ≤ max (length n) 12) where
+  parts : is_name (column n) name ≡ pointwise eqb (take m n) (take m name) && (list_all Blank (drop m n) && list_all Blank (drop m name))
+  parts = parts_at n name (12 - length n) m e (omega arith)
 
-    pub pass : is_name (take (12 * k + 12 - 12 * k) (drop (12 * k) names)) name ≡ false → Passed names name (k + 1)
-    pass f = one_more (λ j. is_name (column_at names j) name) k g (sym column_here ∙ f)
+  pub same : not (pointwise eqb (take m n) (take m name)) ≡ false → list_all Blank (take (length n - m) (drop m n)) ≡ true →
+      is_name (column n) name ≡ list_all Blank (take (length name - m) (drop m name))
+  same t b = let d = not-false _ t in let l = rw part_to_end at b in rw part_to_end (parts ∙ rw (d, l))
 
-    pub named : k < length names / 12 → is_name (take (12 * k + 12 - 12 * k) (drop (12 * k) names)) name ≡ true → Some k ≡ number_in names name
-    unfolding number_in
-    named h t = sym (passes (λ j. is_name (column_at names j) name) k g (sym column_here ∙ t) (length names / 12) h)
+  pub listed_on : not (pointwise eqb (take m n) (take m name)) ≡ false → list_all Blank (take (length n - m) (drop m n)) ≡ false → is_name (column n) name ≡ false
+  listed_on t b = let d = not-false _ t in let l = rw part_to_end at b in parts ∙ rw (d, l)
 
-    pub no_name : k ≤ length names / 12 → length names / 12 ≤ k → None ≡ number_in names name
-    unfolding number_in
-    no_name l h = let e : length names / 12 ≡ k = omega arith in rw e (sym g)
+  pub other : not (pointwise eqb (take m n) (take m name)) ≡ true → is_name (column n) name ≡ false
+  other t = let d = not-true _ t in parts ∙ rw d
+
+pub long : (n name : List ℕ) → max (length n) 12 < length name → is_name (column n) name ≡ false
+long n name h = long_at n name (12 - length n) (omega arith)
+
+-- ---- the number of a name, in a table with something beside each name
+module _ {X : Type 0} (listed : X → List ℕ) where
+  abbrev pub listed_as : (name : List ℕ) → X → Bool
+  listed_as name x = is_name (column (listed x)) name
+
+  place_of : (p : List ℕ → Bool) (xs : List X) → position_or_len p (map listed xs) ≡ position_or_len (λ x. p (listed x)) xs
+  place_of p [] = refl
+  place_of p (x ∷ xs) = by_test (p (listed x)) (λ t. rw t) (λ t. rw (t, place_of p xs))
+
+  pub by_place : (xs : List X) (name : List ℕ) {r : Option ℕ} → r ≡ position (listed_as name) xs → r ≡ number_in (map listed xs) name
+  unfolding number_in
+  by_place xs name e = e ∙ rw (place_of (λ l. is_name (column l) name) xs, length-map xs listed)

@@ -1,8 +1,8 @@
 -- Laws on parts of a text: what is left from a place on, and what stands before a byte.
-use mathlib.Core.Path.{◌≡◌, refl}
+use mathlib.Core.Path.{◌≡◌}
 use mathlib.Core.Bool.{true, false}
 use mathlib.Core.List.{List, [], ◌∷◌}
-use Prim.Native.Nat.{ℕ, zero, suc, ◌+◌, ◌≤◌, ◌<◌}
+use Prim.Native.Nat.{ℕ, ◌+◌, ◌≤◌, ◌<◌}
 use native.Mathlib.Numerals.{add-one}
 use native.Mathlib.Omega.{arith}
 use lib.Dec.{eqb}
@@ -25,12 +25,6 @@ left_one s i h = rw (add-one, drop-cons s i 0)
 -- past the end: nothing
 pub left_none : (s : List ℕ) (i : ℕ) → length s ≤ i → drop i s ≡ []
 left_none s i h = drop_of_length-le s h
-
--- what a place past the end would read is not read within
-pub any_default : (s : List ℕ) (i d e : ℕ) → i < length s → get_or s i d ≡ get_or s i e
-any_default [] i d e h = absurd (omega arith)
-any_default (x ∷ s) zero d e h = refl
-any_default (x ∷ s) (suc i) d e h = any_default s i d e (omega arith)
 
 -- where no search finds a byte, the text lacks it
 pub none_there : (b : ℕ) (s : List ℕ) → None ≡ position (λ x. eqb x b) s → lacks b s ≡ true

@@ -1,10 +1,10 @@
 // Bytes as text: where a byte stands, the number of a name, numbers and hertz in decimal. No clock is mentioned.
 #![tactic(auto)]
 
-ghost use Rattle.std.specs.Prelude.{◌≡◌, ◌==◌, true, false, length, get_or, position, MatchOption, IfSome, option_copied, ◌<◌, ◌/◌};
+ghost use Rattle.std.specs.Prelude.{◌≡◌, ◌==◌, true, false, length, position, MatchOption, IfSome, option_copied, ◌<◌};
 ghost use Rattle.std.specs.List.{list_all};
 ghost use Rattle.std.proofs.lemmas.List.Edits.{sets};
-ghost use Rattle.text.specs.Names.{before, behind, lacks, rest_behind, is_name, number_in};
+ghost use Rattle.text.specs.Names.{before, behind, lacks, rest_behind, column, is_name, texts_of, number_in};
 ghost use Rattle.text.specs.Numbers.{read_some, hertz_of};
 
 mod decimal;
@@ -54,44 +54,34 @@ pub fn store(room: &mut [u8], at: usize, s: &[u8])
     }
 }
 
-// The byte at a place; b past the end.
-pub fn byte_at(s: &[u8], i: usize, b: u8) -> u8
-    ensures { result ≡ get_or s.now i b }
-{
-    if i < s.len() {
-        return s[i];
-    }
-    b
-}
-
 fn is_blank(s: &[u8]) -> bool
     ensures { result ≡ list_all (λ b. b == 32) s.now }
 {
     s.iter().all(|b| *b == b' ')
 }
 
-// Whether a column holds a name, and blanks behind it.
-#[tactic(auto, using(crate::proofs::Named::name_parts, crate::proofs::Named::name_behind, std::proofs::lemmas::Grind::common_steps))]
-fn is_name(column: &[u8], name: &[u8]) -> bool
-    ensures { result ≡ is_name column.now name.now }
+// Whether a name in its column, with blanks behind it up to twelve bytes, is the given one with blanks behind it.
+#[tactic(auto, using(crate::proofs::Named::same, crate::proofs::Named::listed_on, crate::proofs::Named::other, crate::proofs::Named::long))]
+pub fn is_name(listed: &str, name: &[u8]) -> bool
+    ensures { result ≡ is_name (column listed.now) name.now }
 {
-    column.starts_with(name) && is_blank(&column[name.len()..])
+    let listed = listed.as_bytes();
+    let both = listed.len().min(name.len());
+    if name.len() > listed.len().max(12) {
+        return false;
+    }
+    if listed[..both] != name[..both] {
+        return false;
+    }
+    is_blank(&listed[both..]) && is_blank(&name[both..])
 }
 
-// The number of a name in a table of names, each of twelve columns; none where it is none of them. By number, since a chain over
-// chunks_exact leaves open that its chunks are the table's columns.
-#[tactic(auto, using(crate::proofs::Named::none_passed, crate::proofs::Named::pass, crate::proofs::Named::named, crate::proofs::Named::no_name))]
-pub fn name_number(names: &[u8], name: &[u8]) -> Option<usize>
-    ensures number { result ≡ number_in names.now name.now }
-    ensures inside { IfSome result (λ k. k < length names.now / 12) }
+// The number of a name in a table of names; none where it is none of them.
+pub fn name_number(names: &[&str], name: &[u8]) -> Option<usize>
+    ensures number { result ≡ number_in (texts_of names.now) name.now }
+    ensures inside { IfSome result (λ k. k < length names.now) }
 {
-    for k in 0..names.len() / 12 {
-        let from = 12 * k;
-        if is_name(&names[from..from + 12], name) {
-            return Some(k);
-        }
-    }
-    None
+    names.iter().position(|listed| is_name(listed, name))
 }
 
 // A number in decimal, below 2^32.

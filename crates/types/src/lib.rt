@@ -1,8 +1,10 @@
-// What a request, the chip's state, a plan, a register entry and a refusal are. Types only: what is right is said in crates/rules/specs. A
-// frequency is a number of hertz, and one that may be unset an Option of it, as in the Rust.
+// What a request, the chip's state, a plan, a register entry and a refusal are. Types only, and the codes of docs/CODES.md: what is right is said in
+// crates/rules/specs. A frequency is a number of hertz, and one that may be unset an Option of it, as in the Rust.
 #![tactic(auto)]
 
 ghost use Rattle.std.specs.Prelude.{◌<◌};
+
+mod codes;
 
 // A PLL of the three, by its number from 0: PLL1 is 0.
 #[derive(Clone, Copy)]
@@ -23,7 +25,7 @@ pub enum Strategy {
     Fractional,
 }
 
-#[derive(Clone, Copy)]
+#[derive(Clone, Copy, PartialEq, Eq)]
 pub enum Mco1Source {
     Hsi,
     Lse,
@@ -32,7 +34,7 @@ pub enum Mco1Source {
     Hsi48,
 }
 
-#[derive(Clone, Copy)]
+#[derive(Clone, Copy, PartialEq, Eq)]
 pub enum Mco2Source {
     Sysclk,
     Pll2P,
@@ -116,7 +118,7 @@ pub struct Asked {
 }
 
 // The listed refusals, in the order of their numbers, which specs/Document01/Refusals of crates/rules gives them.
-#[derive(Clone, Copy)]
+#[derive(Clone, Copy, PartialEq, Eq)]
 pub enum Refusal {
     OutsideCodes,
     BankLength,

@@ -2,22 +2,23 @@
 use std::fs::File;
 use std::io::Read;
 
-pub fn byte(file: &mut File) -> std::io::Result<u32> {
-    let mut bytes = [0u8; 1];
+fn bytes<const N: usize>(file: &mut File) -> std::io::Result<[u8; N]> {
+    let mut bytes = [0u8; N];
     file.read_exact(&mut bytes)?;
-    Ok(u32::from(bytes[0]))
+    Ok(bytes)
+}
+
+pub fn byte(file: &mut File) -> std::io::Result<u32> {
+    let [b] = bytes::<1>(file)?;
+    Ok(u32::from(b))
 }
 
 pub fn u16le(file: &mut File) -> std::io::Result<u32> {
-    let mut bytes = [0u8; 2];
-    file.read_exact(&mut bytes)?;
-    Ok(u32::from(u16::from_le_bytes(bytes)))
+    Ok(u32::from(u16::from_le_bytes(bytes::<2>(file)?)))
 }
 
 pub fn u32le(file: &mut File) -> std::io::Result<u32> {
-    let mut bytes = [0u8; 4];
-    file.read_exact(&mut bytes)?;
-    Ok(u32::from_le_bytes(bytes))
+    Ok(u32::from_le_bytes(bytes::<4>(file)?))
 }
 
 // Whether something stands behind the last record.

@@ -20,7 +20,7 @@ pub fn fresh() -> Tally {
 fn say(form: &[u8], numbers: &[u64]) {
     print::line(
         form,
-        b"realistic   boundary    full-range  damaged     ",
+        &["realistic", "boundary", "full-range", "damaged"],
         numbers,
     );
 }

@@ -1,5 +1,5 @@
 -- A line from its parts.
-use Rattle.std.specs.Prelude.{Option, Some, None}
+use Rattle.std.specs.Prelude.{Option, Some, None, is_some, unwrap_or}
 use mathlib.Core.Path.{◌≡◌, refl}
 use mathlib.Core.Bool.{true, false, not}
 use mathlib.Core.List.{List, [], ◌∷◌}
@@ -25,9 +25,9 @@ all_five known h (Some x) = let d = x.denominator in by_test (eqb d 0) (λ (t : 
 
 module _ (report bank : List ℕ) (hse : Option ℕ) (k : ℕ) where
   pub line :
-      k ≤ 25 → (there hertz from known divisor : ℕ) (x : Option Exact) (e : List ℕ) → there ≡ word report (2 * k) → hertz ≡ word report (2 * k + 1) →
-      from ≡ from_of bank k → known ≡ bit (not (eqb from 29)) → divisor ≡ divisor_of bank k → x ≡ reading_of (path_by bank (fed_by hse) k) →
-      e ≡ exact_parts known hertz x → k ∷ there ∷ hertz ∷ from ∷ known ∷ divisor ∷ five e ≡ line_of report bank hse k
+      k ≤ 25 → (there hertz : ℕ) (from : Option ℕ) (known divisor : ℕ) (x : Option Exact) (e : List ℕ) → there ≡ word report (2 * k) → hertz ≡ word report (2 * k + 1) →
+      from ≡ from_of bank k → known ≡ bit (is_some from) → divisor ≡ divisor_of bank k → x ≡ reading_of (path_by bank (fed_by hse) k) →
+      e ≡ exact_parts known hertz x → k ∷ there ∷ hertz ∷ unwrap_or from 29 ∷ known ∷ divisor ∷ five e ≡ line_of report bank hse k
   unfolding line_of
   line h there hertz from known divisor x e e1 e2 e3 e4 e5 e6 e7 =
       rw (le-leb k 25 h, e7, all_five known hertz x, e6, e5, e4, e3, e2, e1)

@@ -1,4 +1,5 @@
 -- What a line says a clock comes from, and what divides it, are the steps of the clock tree (Manual/Tree), for any bank.
+use Rattle.std.specs.Prelude.{Option, Some, None}
 use mathlib.Core.Path.{◌≡◌, refl, ap}
 use mathlib.Core.Bool.{Bool, true, false, cond}
 use mathlib.Core.List.{List, [], ◌∷◌}
@@ -24,20 +25,29 @@ output_at j R = 19 + 3 * number j
 abbrev pub TimerSays : (path ahb : Chain) → (divisor : ℕ) → Type 0
 TimerSays path ahb d = (path ≡ over ahb d) ⊎ ((d ≡ 1) × (path ≡ ahb))
 
+-- the clock with a number
+abbrev pub of_number : List ℕ → Oscillator → Option ℕ → Chain
+of_number b fed None = none
+of_number b fed (Some k) = path_by b fed k
+
+-- the clock that the line of clock k names; none where it names none
+abbrev pub named : List ℕ → Oscillator → (k : ℕ) → Chain
+named b fed k = of_number b fed (from_of b k)
+
 pub record LinesSay (b : List ℕ) (fed : Oscillator) : Type 0 where
   -- the system clock and the peripheral clock are the clock that their line names
-  pub sys : path_by b fed 0 ≡ path_by b fed (from_of b 0)
-  pub per : path_by b fed 7 ≡ path_by b fed (from_of b 7)
+  pub sys : path_by b fed 0 ≡ named b fed 0
+  pub per : path_by b fed 7 ≡ named b fed 7
   -- the buses and the clock outputs are it, divided
-  pub ahb : path_by b fed 1 ≡ over (path_by b fed (from_of b 1)) (divisor_of b 1)
-  pub apb1 : path_by b fed 2 ≡ over (path_by b fed (from_of b 2)) (divisor_of b 2)
-  pub apb2 : path_by b fed 3 ≡ over (path_by b fed (from_of b 3)) (divisor_of b 3)
-  pub apb3 : path_by b fed 4 ≡ over (path_by b fed (from_of b 4)) (divisor_of b 4)
-  pub mco1 : path_by b fed 15 ≡ over (path_by b fed (from_of b 15)) (divisor_of b 15)
-  pub mco2 : path_by b fed 16 ≡ over (path_by b fed (from_of b 16)) (divisor_of b 16)
+  pub ahb : path_by b fed 1 ≡ over (named b fed 1) (divisor_of b 1)
+  pub apb1 : path_by b fed 2 ≡ over (named b fed 2) (divisor_of b 2)
+  pub apb2 : path_by b fed 3 ≡ over (named b fed 3) (divisor_of b 3)
+  pub apb3 : path_by b fed 4 ≡ over (named b fed 4) (divisor_of b 4)
+  pub mco1 : path_by b fed 15 ≡ over (named b fed 15) (divisor_of b 15)
+  pub mco2 : path_by b fed 16 ≡ over (named b fed 16) (divisor_of b 16)
   -- the timers
-  pub timx : TimerSays (path_by b fed 5) (path_by b fed (from_of b 5)) (divisor_of b 5)
-  pub timy : TimerSays (path_by b fed 6) (path_by b fed (from_of b 6)) (divisor_of b 6)
+  pub timx : TimerSays (path_by b fed 5) (named b fed 5) (divisor_of b 5)
+  pub timy : TimerSays (path_by b fed 6) (named b fed 6) (divisor_of b 6)
   -- an output of a PLL is its VCO divided, behind ON and the output's enable
   pub outputs :
       (j : PllName) (o : Output) →
@@ -62,7 +72,7 @@ module _ (b : List ℕ) (fed : Oscillator) where
   abbrev of : Tree.Clock → Chain
   of = path_of b fed
 
-  sys_from : (w : ℕ) → get_or (of Tree.hsi ∷ of Tree.csi ∷ of Tree.hse ∷ of (Tree.output pll1 P) ∷ []) w none ≡ path_by b fed (sw_clock w)
+  sys_from : (w : ℕ) → get_or (of Tree.hsi ∷ of Tree.csi ∷ of Tree.hse ∷ of (Tree.output pll1 P) ∷ []) w none ≡ of_number b fed (sw_clock w)
   unfolding clocks_by
   sys_from zero = refl
   sys_from (suc zero) = refl
@@ -70,14 +80,14 @@ module _ (b : List ℕ) (fed : Oscillator) where
   sys_from (suc (suc (suc zero))) = refl
   sys_from (suc (suc (suc (suc w)))) = refl
 
-  per_from : (w : ℕ) → get_or (of Tree.hsi ∷ of Tree.csi ∷ of Tree.hse ∷ []) w none ≡ path_by b fed (per_clock w)
+  per_from : (w : ℕ) → get_or (of Tree.hsi ∷ of Tree.csi ∷ of Tree.hse ∷ []) w none ≡ of_number b fed (per_clock w)
   unfolding clocks_by
   per_from zero = refl
   per_from (suc zero) = refl
   per_from (suc (suc zero)) = refl
   per_from (suc (suc (suc w))) = refl
 
-  mco1_from : (w : ℕ) → get_or (of Tree.hsi ∷ none ∷ of Tree.hse ∷ of (Tree.output pll1 Q) ∷ of Tree.hsi48 ∷ []) w none ≡ path_by b fed (mco1_clock w)
+  mco1_from : (w : ℕ) → get_or (of Tree.hsi ∷ none ∷ of Tree.hse ∷ of (Tree.output pll1 Q) ∷ of Tree.hsi48 ∷ []) w none ≡ of_number b fed (mco1_clock w)
   unfolding clocks_by
   mco1_from zero = refl
   mco1_from (suc zero) = refl
@@ -88,7 +98,7 @@ module _ (b : List ℕ) (fed : Oscillator) where
 
   mco2_from :
       (w : ℕ) → get_or (of Tree.sys ∷ of (Tree.output pll2 P) ∷ of Tree.hse ∷ of (Tree.output pll1 P) ∷ of Tree.csi ∷ of Tree.lsi ∷ []) w none
-      ≡ path_by b fed (mco2_clock w)
+      ≡ of_number b fed (mco2_clock w)
   unfolding clocks_by
   mco2_from zero = refl
   mco2_from (suc zero) = refl

@@ -6,7 +6,6 @@ ghost use Rattle.view.specs.View.{exact_parts, line_of};
 
 use exact::Exact;
 use fields::word;
-use tree::NOTHING;
 
 mod tree;
 
@@ -26,6 +25,9 @@ fn exact_parts(known: u64, hertz: u64, x: Option<Exact>) -> [u64; 5]
     }
 }
 
+// The number that stands for no clock in a line: docs/CODES.md, The page of a plan.
+const NOTHING: usize = 29;
+
 // Clock k of a report, and of the tree that a bank's words make.
 #[tactic(auto, using(crate::proofs::Line::lines))]
 pub fn clock_line(report: &[u32], bank: &[u32], hse: Option<u32>, k: usize) -> [u64; 11]
@@ -37,14 +39,14 @@ pub fn clock_line(report: &[u32], bank: &[u32], hse: Option<u32>, k: usize) -> [
     let there = word(report, 2 * k) as u64;
     let hertz = word(report, 2 * k + 1) as u64;
     let from = tree::from_of(bank, k);
-    let known = (from != NOTHING) as u64;
+    let known = u64::from(from.is_some());
     let divisor = tree::divisor_of(bank, k);
     let e = exact_parts(known, hertz, exact::clock_reading(bank, hse, k));
     [
         k as u64,
         there,
         hertz,
-        from as u64,
+        from.unwrap_or(NOTHING) as u64,
         known,
         divisor,
         e[0],

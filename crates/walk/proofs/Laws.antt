@@ -25,7 +25,7 @@ use Rattle.claims.specs.Demands.Agreement.{AllowsEachP}
 use Rattle.rules.specs.Stated.Walks.{Pair, shows, Satisfy}
 use Rattle.claims.proofs.Demands.{demand_2_walk}
 use Rattle.walk.specs.declared.Walk.{Walk}
-use Rattle.walk.specs.Walk.{fresh_walk, stand_at, stand_of, stepped_by, stepped_walk}
+use Rattle.walk.specs.Walk.{fresh_walk, stand_at, stand_of, passed_walk, stepped_by, stepped_walk}
 
 -- a fresh record stands where document 01's does
 pub fresh_stands : (x : Result Plan Refusal) → stand_of (fresh_walk x) ≡ fresh_of x
@@ -68,9 +68,10 @@ module _ (w : Walk) (a b : ℕ) where
   unfolding stand_of stepped_walk
   step_stands = moves w.down w.planned (drop w.at (entries_of w.planned)) refl refl refl
 
--- both clauses of a step
-pub both : (w : Walk) (a b : ℕ) {r : Walk} → r ≡ stepped_walk w a b → (r ≡ stepped_walk w a b) × (stand_of r ≡ stepped_of (stand_of w) a b)
-both w a b e = (e, ap stand_of e ∙ step_stands w a b)
+-- at the entry that is shown
+pub passed_stands : (w : Walk) (e : Entry) (a b : ℕ) → Next e ≡ shown_of (stand_of w) → stand_of (passed_walk e w a b) ≡ stepped_of (stand_of w) a b
+unfolding stepped_walk
+passed_stands w e a b h = ap (λ s. stand_of (stepped_by s w a b)) h ∙ step_stands w a b
 
 -- what records show over any reads
 abbrev pub record_shows : Walk → List Pair → List Shown

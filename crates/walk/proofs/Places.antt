@@ -15,26 +15,18 @@ use Rattle.rules.specs.Document01.Entries.{entries_of, most}
 use Rattle.rules.specs.Document01.Walk.{before, shown_of}
 use Rattle.rules.proofs.Document01.Length.{at_most}
 use Rattle.walk.specs.declared.Walk.{Walk}
-use Rattle.walk.specs.Walk.{stand_at, stand_of, stepped_by, stepped_walk}
+use Rattle.walk.specs.Walk.{stand_at, stand_of}
 
 -- what a walk at that place shows
 abbrev pub shown_by : Option Entry → Shown
 shown_by (Some e) = Next e
 shown_by None = Finished
 
-shown_at : (es : List Entry) (k : ℕ) → shown_by (slice_get es k) ≡ shown_of (before (drop k es))
+pub shown_at : (es : List Entry) (k : ℕ) → shown_of (before (drop k es)) ≡ shown_by (slice_get es k)
 shown_at [] zero = refl
 shown_at [] (suc k) = refl
 shown_at (e ∷ es) zero = refl
 shown_at (e ∷ es) (suc k) = shown_at es k
-
-accepted_at : (d : Bool) (a : Result Plan Refusal) (p : Plan) (es : List Entry) (k : ℕ) (x : Option Entry) → d ≡ false → a ≡ Ok p → x ≡ slice_get es k → shown_by x ≡ shown_of (stand_at d a (drop k es))
-accepted_at d a p es k x f g e = rw (f, g, e) (shown_at es k)
-
--- what `shows` answers of a plan
-pub by_entry : (w : Walk) (p : Plan) (x : Option Entry) → w.down ≡ false → w.planned ≡ Ok p → x ≡ slice_get (entries_of w.planned) w.at → shown_by x ≡ shown_of (stand_of w)
-unfolding stand_of
-by_entry w p x d a e = accepted_at w.down w.planned p (entries_of w.planned) w.at x d a e
 
 -- ---- a place with an entry
 below : (es : List Entry) (k : ℕ) (e : Entry) → shown_of (before (drop k es)) ≡ Next e → k < length es
@@ -54,8 +46,3 @@ fits w e h =
     let b = standing w.down w.planned (entries_of w.planned) w.at e (sym h) in
     let s = at_most w.planned in
     omega arith
-
--- what `stepped` makes of the record, by what is shown
-pub by_shown : (w : Walk) (a b : ℕ) (s : Shown) → s ≡ shown_of (stand_of w) → stepped_by s w a b ≡ stepped_walk w a b
-unfolding stepped_walk
-by_shown w a b s e = rw e

@@ -8,6 +8,7 @@ ghost use Rattle.rules.specs.Words.{shown_count, ran};
 ghost use Rattle.walk.specs.Walk.{fresh_walk, stand_of, stepped_walk, passed_walk};
 
 use types::{Entry, Plan, Refusal, Shown};
+use words::steps::Steps;
 
 // The answer whose list is walked, the place in the list, and whether the check of CSIRDY has ended the walk.
 #[derive(Clone, Copy)]
@@ -18,6 +19,7 @@ pub struct Walk {
 }
 
 // A walk before any step.
+#[tactic(auto, using(crate::proofs::Laws::fresh_stands))]
 pub fn fresh(planned: Result<Plan, Refusal>) -> Walk
     ensures walk { result ≡ fresh_walk planned }
     ensures rules { stand_of result ≡ fresh_of planned }
@@ -26,23 +28,6 @@ pub fn fresh(planned: Result<Plan, Refusal>) -> Walk
         planned,
         at: 0,
         down: false,
-    }
-}
-
-// What it shows: the entry that is next, finished, or the refusal that ended it.
-#[tactic(auto, unfolding(crate::specs::Walk::stand_of))]
-pub fn shows(w: Walk) -> Shown
-    ensures { result ≡ shown_of (stand_of w) }
-{
-    if w.down {
-        return Shown::Stopped(Refusal::CsiDown);
-    }
-    match w.planned {
-        Err(n) => Shown::Stopped(n),
-        Ok(_) => match entries::entry_at(&w.planned, w.at) {
-            Some(e) => Shown::Next(e),
-            None => Shown::Finished,
-        },
     }
 }
 
@@ -83,28 +68,35 @@ fn passed(w: Walk, e: Entry, a: u32, b: u32) -> Walk
     }
 }
 
-// The walk after the values read: by value.
-#[tactic(auto, unfolding(crate::specs::Walk::stepped_walk), using(crate::proofs::Places::fits, crate::proofs::Laws::step_stands))]
-pub fn stepped(w: Walk, a: u32, b: u32) -> Walk
-    ensures walk { result ≡ stepped_walk w a b }
-    ensures rules { stand_of result ≡ stepped_of (stand_of w) a b }
-{
-    match shows(w) {
-        Shown::Next(e) => passed(w, e, a, b),
-        Shown::Finished => w,
-        Shown::Stopped(_) => w,
-    }
-}
+impl Steps for Walk {
+    ghost stand = { stand_of };
 
-// The same in place: the record is moved on by the values read, and what it now shows is the answer.
-pub fn step(w: &mut Walk, a: u32, b: u32) -> Shown
-    ensures walk { w.new ≡ stepped_walk w.old a b }
-    ensures rules { stand_of w.new ≡ stepped_of (stand_of w.old) a b }
-    ensures shown { result ≡ shown_of (stand_of (stepped_walk w.old a b)) }
-{
-    let n = stepped(*w, a, b);
-    *w = n;
-    shows(n)
+    ghost rule = { λ w. stepped_of };
+
+    ghost after = { stepped_walk };
+
+    #[tactic(auto, using(crate::proofs::Places::shown_at), unfolding(crate::specs::Walk::stand_of))]
+    fn shows(self) -> Shown {
+        if self.down {
+            return Shown::Stopped(Refusal::CsiDown);
+        }
+        match self.planned {
+            Err(n) => Shown::Stopped(n),
+            Ok(_) => match entries::entry_at(&self.planned, self.at) {
+                Some(e) => Shown::Next(e),
+                None => Shown::Finished,
+            },
+        }
+    }
+
+    #[tactic(auto, unfolding(crate::specs::Walk::stepped_walk), using(crate::proofs::Places::fits, crate::proofs::Laws::step_stands, crate::proofs::Laws::passed_stands))]
+    fn stepped(self, a: u32, b: u32) -> Walk {
+        match self.shows() {
+            Shown::Next(e) => passed(self, e, a, b),
+            Shown::Finished => self,
+            Shown::Stopped(_) => self,
+        }
+    }
 }
 
 // A whole walk over values that were read, two for each step: what was shown before any step and after each, as nine words each. The answer

@@ -26,14 +26,11 @@ pub fn show(e: Entry) {
 
 // A field's name, with a blank for its point.
 fn field(f: usize) {
-    let mut name = [0u8; 12];
-    let n = template::fill(
-        b"{0#}",
-        &print::FIELDS,
-        &[(f as u64).saturating_add(1)],
-        &mut name,
-    );
-    for b in &name[..n] {
+    let name = print::FIELDS
+        .get(f.saturating_add(1))
+        .copied()
+        .unwrap_or("");
+    for b in name.as_bytes() {
         say(&[if *b == b'.' { b' ' } else { *b }]);
     }
 }

@@ -4,6 +4,7 @@ use crate::{chip, entry};
 use print::{named, say};
 use types::{Entry, Plan, Refusal, Shown};
 use walk::Walk;
+use words::steps::Steps;
 
 pub fn walk(planned: Result<Plan, Refusal>) {
     let mut w = walk::fresh(planned);
@@ -21,10 +22,10 @@ pub fn walk(planned: Result<Plan, Refusal>) {
 
 // Shows what is next, if it was not shown before, and takes a step with what the chip shows.
 fn one(w: &mut Walk, times: u32) {
-    match walk::shows(*w) {
+    match w.shows() {
         Shown::Next(e) => {
             let r = line(e, times);
-            walk::step(w, r.a, r.b);
+            w.step(r.a, r.b);
         }
         Shown::Finished => {
             if times == 0 {

@@ -3,6 +3,7 @@ use crate::{chip, entry};
 use print::{named, say};
 use pwr::VoltageWalk;
 use types::{Entry, Shown};
+use words::steps::Steps;
 
 pub fn all() {
     for target in 0..4 {
@@ -28,11 +29,11 @@ fn walk(target: u32, actual: u32) {
 }
 
 fn one(w: &mut VoltageWalk, actual: u32) {
-    match pwr::shows(*w) {
+    match w.shows() {
         Shown::Next(e) => {
             say(b"; ");
             entry::show(e);
-            pwr::step(w, read(e, actual), 0);
+            w.step(read(e, actual), 0);
         }
         Shown::Finished => {}
         Shown::Stopped(n) => named(b": refused ", refusal::number_of(n)),

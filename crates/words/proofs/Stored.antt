@@ -1,23 +1,19 @@
 -- Nine words are stored where they fit, one after the other, and else nothing is.
 use mathlib.Core.Path.{◌≡◌, ◌∙◌, ap}
 use mathlib.Core.List.{List}
-use Prim.Native.Nat.{ℕ, zero, suc, ◌+◌, ◌-◌, ◌≤◌, ◌<◌}
+use Prim.Native.Nat.{ℕ, zero, suc, ◌+◌, ◌≤◌, ◌<◌}
 use native.Mathlib.Omega.{arith}
 use borrow.Author.Tests.{le-leb, lt-leb}
 use lib.ListN.{length, get_or, set}
 use Rattle.rules.specs.Words.{nine_at, stored_at}
 
 module _ (b : List ℕ) (at : ℕ) (w : List ℕ) where
-  pub no_room : length b < 9 → b ≡ stored_at b at w
+  pub no_room : length b < at + 9 → b ≡ stored_at b at w
   unfolding stored_at
-  no_room h = rw (lt-leb (at + 9) (length b) (omega arith))
-
-  pub too_late : 9 ≤ length b → length b - 9 < at → b ≡ stored_at b at w
-  unfolding stored_at
-  too_late h k = rw (lt-leb (at + 9) (length b) (omega arith))
+  no_room h = rw (lt-leb (at + 9) (length b) h)
 
   -- once the first i words are stored
-  abbrev firsts : ℕ → List ℕ
+  abbrev pub firsts : ℕ → List ℕ
   firsts zero = b
   firsts (suc i) = set (firsts i) (at + i) (get_or w i 0)
 
@@ -30,12 +26,6 @@ module _ (b : List ℕ) (at : ℕ) (w : List ℕ) where
       let f : at + 6 + 2 ≡ at + 8 = omega arith in
       rw (a, c, d, e, f)
 
-  abbrev pub Storing : (o : List ℕ) → (i : ℕ) → Type 0
-  Storing o i = (o ≡ firsts i) × ((i ≤ 9) × (at + 9 ≤ length b))
-
-  module _ {o : List ℕ} {i : ℕ} (s : Storing o i) where
-    pub ends : 9 ≤ i → o ≡ stored_at b at w
-    unfolding stored_at
-    ends h =
-        let l : i ≡ 9 = (let u = s.1.0 in omega arith) in
-        rw (le-leb (at + 9) (length b) s.1.1) (s.0 ∙ ap firsts l ∙ nine)
+  pub ends : (i : ℕ) → at + 9 ≤ length b → i ≤ 9 → 9 ≤ i → firsts i ≡ stored_at b at w
+  unfolding stored_at
+  ends i r l h = let e : i ≡ 9 = omega arith in rw (le-leb (at + 9) (length b) r) (ap firsts e ∙ nine)

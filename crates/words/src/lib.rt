@@ -6,8 +6,10 @@ ghost use Rattle.rules.specs.Words.{field_word, entry_words, shown_words, stored
 
 use types::{Entry, Shown};
 
+pub mod steps;
+
 // A field of the bank, from 1; 0 for none.
-fn field(f: usize) -> u32
+pub fn field(f: usize) -> u32
     ensures { result ≡ field_word f }
 {
     if f < 82 { f as u32 + 1 } else { 0 }
@@ -50,19 +52,17 @@ pub fn shown_words(s: Shown) -> [u32; 9]
     }
 }
 
-// Nine words from a place on, where they fit.
-pub fn store_words(out: &mut [u32], at: usize, words: [u32; 9])
-    ensures { out.new ≡ stored_at out.old at words }
+// Nine words from a place on, where they fit. Not by `copy_from_slice`: a copy of a length that is no constant is compiled to a form that
+// scripts/firmware does not take to a 32-bit target.
+#[tactic(auto, using(crate::proofs::Stored::no_room, crate::proofs::Stored::ends))]
+pub fn store_words(out: &mut [u32], at: usize, words: &[u32; 9])
+    ensures { out.new ≡ stored_at out.old at words.now }
 {
     let n = out.len();
-    if n < 9 {
-        return;
-    }
-    if n - 9 < at {
-        return;
-    }
-    for i in 0..9 {
-        out[at + i] = words[i];
+    if 9 <= n && at <= n - 9 {
+        for i in 0..9 {
+            out[at + i] = words[i];
+        }
     }
 }
 

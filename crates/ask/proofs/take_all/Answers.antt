@@ -1,38 +1,41 @@
 -- `ask::take_all` meets its contract.
-use mathlib.Core.Path.{◌≡◌, sym, ◌∙◌}
-use Prim.Native.Nat.{◌+◌}
-use Rattle.std.proofs.Common.{rules}
-use Rattle.ask.specs.All.{at_word}
-use Rattle.ask.proofs.Taking.{begins, ends, passes, goes_on, stops}
+use Rattle.std.proofs.Common.{rules, arith}
+use Rattle.std.proofs.lemmas.List.{length_push}
+use borrow.Author.Tests.{tests}
+use Rattle.ask.proofs.Taking.{begins, part_at, no_part, inside, goes_on, stops, ends}
 use Rattle.ask.proofs.take_all.Goals as goal
 
-pub loop-at-init : goal.loop-at-init
-loop-at-init c = begins c.args.sheet.now c.args.words.now
+pub loop-part-init : goal.loop-part-init
+loop-part-init c = begins c.args.sheet.now c.args.words.now
 
-pub loop-at-preserved-then-is_blank : goal.loop-at-preserved-then-is_blank
-loop-at-preserved-then-is_blank c = passes _ _ _ _ c.loop-at.invariant c.loop-at-test.true (sym c.is_blank.ensures ∙ c.if-is_blank.true)
+pub take_part-requires : goal.take_part-requires
+take_part-requires c =
+    let k = c.split-part-items.ensures in
+    let t = part_at _ _ _ _ k.rest k.done c.into_iter-part-iterator.ensures.into_iter_gives c.loop-part.yielded_by c.next.ensures.steps (λ x b q k. search (rules, tests)) c.in-Some.part c.in-Some.is in
+    omega (arith, inside _ _ _ _ _ c.loop-part.invariant _ t)
 
-pub loop-at-preserved : goal.loop-at-preserved
-loop-at-preserved c =
-    let l = c.loop-at in
-    let m : c.map_err.result ≡ at_word l.at (l.at + c.filled.result) c.take.result = search rules in
-    goes_on _ _ _ _ l.invariant c.loop-at-test.true (sym c.is_blank.ensures ∙ c.if-is_blank.false) c.filled.ensures c.take.ensures.wrong c.take.ensures.sheet m _ c.in_ok-map_err.was
+pub overflow_add-from-in-loop-part : goal.overflow_add-from-in-loop-part
+overflow_add-from-in-loop-part c =
+    let k = c.split-part-items.ensures in
+    let t = part_at _ _ _ _ k.rest k.done c.into_iter-part-iterator.ensures.into_iter_gives c.loop-part.yielded_by c.next.ensures.steps (λ x b q k. search (rules, tests)) c.in-Some.part c.in-Some.is in
+    omega (arith, inside _ _ _ _ _ c.loop-part.invariant _ t)
 
-pub returns-in_err-map_err-clause-taken : goal.returns-in_err-map_err-clause-taken
-returns-in_err-map_err-clause-taken c =
-    let l = c.loop-at in
-    let m : c.map_err.result ≡ at_word l.at (l.at + c.filled.result) c.take.result = search rules in
-    let f : c.from_residual.result ≡ c.map_err.result = search rules in
-    f ∙ (stops _ _ _ _ l.invariant c.loop-at-test.true (sym c.is_blank.ensures ∙ c.if-is_blank.false) c.filled.ensures c.take.ensures.wrong c.take.ensures.sheet m _ c.in_err-map_err.was).0
+pub loop-part-preserved : goal.loop-part-preserved
+loop-part-preserved c =
+    let k = c.split-part-items.ensures in
+    let t = part_at _ _ _ _ k.rest k.done c.into_iter-part-iterator.ensures.into_iter_gives c.loop-part.yielded_by c.next.ensures.steps (λ x b q k. search (rules, tests)) c.in-Some.part c.in-Some.is in
+    rw length_push (goes_on _ _ _ _ _ c.loop-part.invariant _ t c.take_part.ensures.wrong c.take_part.ensures.sheet _ c.in_ok-take_part.was)
 
-pub returns-in_err-map_err-clause-sheet : goal.returns-in_err-map_err-clause-sheet
-returns-in_err-map_err-clause-sheet c =
-    let l = c.loop-at in
-    let m : c.map_err.result ≡ at_word l.at (l.at + c.filled.result) c.take.result = search rules in
-    (stops _ _ _ _ l.invariant c.loop-at-test.true (sym c.is_blank.ensures ∙ c.if-is_blank.false) c.filled.ensures c.take.ensures.wrong c.take.ensures.sheet m _ c.in_err-map_err.was).1
+pub returns-in_err-take_part : goal.returns-in_err-take_part
+returns-in_err-take_part c =
+    let k = c.split-part-items.ensures in
+    let t = part_at _ _ _ _ k.rest k.done c.into_iter-part-iterator.ensures.into_iter_gives c.loop-part.yielded_by c.next.ensures.steps (λ x b q k. search (rules, tests)) c.in-Some.part c.in-Some.is in
+    let s = stops _ _ _ _ _ c.loop-part.invariant _ t c.take_part.ensures.wrong c.take_part.ensures.sheet _ c.in_err-take_part.was in
+    record { taken = search rules; sheet = s.1 }
 
-pub returns-clause-taken : goal.returns-clause-taken
-returns-clause-taken c = (ends _ _ _ _ c.loop-at.invariant c.loop-at-test.false).0
-
-pub returns-clause-sheet : goal.returns-clause-sheet
-returns-clause-sheet c = (ends _ _ _ _ c.loop-at.invariant c.loop-at-test.false).1
+pub returns : goal.returns
+returns c =
+    let k = c.split-part-items.ensures in
+    let t = no_part _ _ _ _ k.rest k.done c.into_iter-part-iterator.ensures.into_iter_gives c.loop-part.yielded_by c.next.ensures.steps (λ x b q k. search (rules, tests)) c.in-None.is in
+    let e = ends _ _ _ _ _ c.loop-part.invariant t in
+    record { taken = e.0; sheet = e.1 }

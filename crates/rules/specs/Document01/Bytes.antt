@@ -6,6 +6,7 @@ use Rattle.types.specs.declared.Strategy.{Strategy}
 use Rattle.types.specs.declared.Strategy.TheVariants.{Integer, Fractional}
 use Rattle.types.specs.declared.Mco1Source.{Mco1Source}
 use Rattle.types.specs.declared.Mco2Source.{Mco2Source}
+pub use Rattle.types.specs.Codes.{mco1_sources, mco2_sources}
 use Rattle.types.specs.declared.PllRequest.{PllRequest}
 use Rattle.types.specs.declared.Request.{Request}
 use Rattle.types.specs.declared.Refusal.TheVariants.{OutsideCodes}
@@ -88,19 +89,11 @@ flag = do
   c ← code 2
   return (eqb c 1)
 
--- MCO1's sources, by code
-abbrev pub mco1_sources : List Mco1Source
-mco1_sources = Mco1Source.Hsi ∷ Mco1Source.Lse ∷ Mco1Source.Hse ∷ Mco1Source.Pll1Q ∷ Mco1Source.Hsi48 ∷ []
-
 -- MCO1 source
 unfoldable pub mco1_source : Reader Mco1Source
 mco1_source = do
   c ← code 5
   return (get_or mco1_sources c Mco1Source.Hsi)
-
--- MCO2's sources, by code
-abbrev pub mco2_sources : List Mco2Source
-mco2_sources = Mco2Source.Sysclk ∷ Mco2Source.Pll2P ∷ Mco2Source.Hse ∷ Mco2Source.Pll1P ∷ Mco2Source.Csi ∷ Mco2Source.Lsi ∷ []
 
 -- MCO2 source
 unfoldable pub mco2_source : Reader Mco2Source

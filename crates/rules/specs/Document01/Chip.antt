@@ -3,7 +3,8 @@
 use Rattle.std.specs.Prelude.{Bool, false, cond, ◌&&◌, ◌||◌, [], ◌∷◌, ℕ, eqb, ltb, get_or, Result, Ok}
 use Rattle.types.specs.declared.Refusal.{Refusal}
 use Rattle.types.specs.declared.Scale.{Scale}
-use Rattle.types.specs.declared.Scale.TheVariants.{Scale0, Scale1, Scale2, Scale3}
+use Rattle.types.specs.declared.Scale.TheVariants.{Scale0}
+use Rattle.types.specs.Codes.{scales}
 use Rattle.types.specs.declared.Hsidiv.{Hsidiv}
 use Rattle.types.specs.declared.Chip.{Chip}
 use Rattle.types.specs.declared.ChipState.{ChipState}
@@ -31,7 +32,7 @@ divisor_of Hsidiv.Div8 = 8
 
 -- voltage scale 0 to 3
 abbrev pub scale_of : ℕ → Scale
-scale_of n = get_or (Scale0 ∷ Scale1 ∷ Scale2 ∷ Scale3 ∷ []) n Scale0
+scale_of n = get_or scales n Scale0
 
 -- the number that stands for PLL k's permission, from 0
 abbrev pub permission : Chip → (k : ℕ) → ℕ

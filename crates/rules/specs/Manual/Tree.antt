@@ -162,13 +162,21 @@ module _ (b : List ℕ) (fed : Oscillator) where
   unfoldable pub per_of : Chain
   per_of = get_or (from_oscillator hsi_of ∷ from_oscillator csi_of ∷ from_oscillator hse_of ∷ []) (word b Fields.CKPERSEL) none
 
-  -- MCO1SEL: 0 HSI, 1 LSE (which gives none), 2 HSE, 3 PLL1 Q, 4 HSI48; MCO1PRE
-  unfoldable pub mco1_of : Chain
-  mco1_of = over (get_or (from_oscillator hsi_of ∷ none ∷ from_oscillator hse_of ∷ output_of pll1 Q ∷ from_oscillator hsi48_of ∷ []) (word b Fields.MCO1SEL) none) (word b Fields.MCO1PRE)
+  -- MCO1SEL: 0 HSI, 1 LSE (which gives none), 2 HSE, 3 PLL1 Q, 4 HSI48
+  abbrev pub mco1_source_of : Chain
+  mco1_source_of = get_or (from_oscillator hsi_of ∷ none ∷ from_oscillator hse_of ∷ output_of pll1 Q ∷ from_oscillator hsi48_of ∷ []) (word b Fields.MCO1SEL) none
 
-  -- MCO2SEL: 0 system, 1 PLL2 P, 2 HSE, 3 PLL1 P, 4 CSI, 5 LSI; MCO2PRE
+  -- MCO1 = its source / MCO1PRE
+  unfoldable pub mco1_of : Chain
+  mco1_of = over mco1_source_of (word b Fields.MCO1PRE)
+
+  -- MCO2SEL: 0 system, 1 PLL2 P, 2 HSE, 3 PLL1 P, 4 CSI, 5 LSI
+  abbrev pub mco2_source_of : Chain
+  mco2_source_of = get_or (sys_of ∷ output_of pll2 P ∷ from_oscillator hse_of ∷ output_of pll1 P ∷ from_oscillator csi_of ∷ from_oscillator lsi_of ∷ []) (word b Fields.MCO2SEL) none
+
+  -- MCO2 = its source / MCO2PRE
   unfoldable pub mco2_of : Chain
-  mco2_of = over (get_or (sys_of ∷ output_of pll2 P ∷ from_oscillator hse_of ∷ output_of pll1 P ∷ from_oscillator csi_of ∷ from_oscillator lsi_of ∷ []) (word b Fields.MCO2SEL) none) (word b Fields.MCO2PRE)
+  mco2_of = over mco2_source_of (word b Fields.MCO2PRE)
 
   -- each clock: APB = AHB / its PPRE, timers by TIMPRE
   unfoldable pub path_of : Clock → Chain
