@@ -1,5 +1,5 @@
 -- Words put on a sheet, and a key taken off it. docs/CODES.md, A request in words.
-use Rattle.std.specs.Prelude.{Bool, false, cond, ◌&&◌, List, [], ◌∷◌, Option, Some, None, is_some, unwrap_or, Result, Ok, Err, ℕ, ◌+◌, ◌-◌, ◌*◌, ◌/◌, ◌%◌, leb, eqb, length, get_or, take, drop, set}
+use Rattle.std.specs.Prelude.{Bool, true, false, cond, ◌&&◌, List, [], ◌∷◌, Option, Some, None, is_some, unwrap_or, Result, Ok, Err, ℕ, ◌+◌, ◌-◌, ◌*◌, ◌/◌, ◌%◌, leb, eqb, length, get_or, take, drop, set}
 use Rattle.std.specs.List.{list_all}
 use Rattle.std.proofs.lemmas.List.Edits.{sets}
 use Rattle.sheet.specs.Sheet.{chip_at, given_at, fresh_sheet}
@@ -43,11 +43,16 @@ abbrev pub with_bytes : (sheet value : List ℕ) → List ℕ
 with_bytes s v = cond (hex_fits (get_or s given_at 0) v) (set (sets s (get_or s given_at 0) (hex_bytes v)) given_at (get_or s given_at 0 + length v / 2)) s
 
 -- ---- a word on a sheet
+-- the kind of bytes=
+abbrev pub are_digits : Kind → Bool
+are_digits Digits = true
+are_digits _ = false
+
 -- whether the word is bytes= and a value
 abbrev pub is_bytes : (key : Option ℕ) → (value : Option (List ℕ)) → Bool
 is_bytes None v = false
 is_bytes (Some k) None = false
-is_bytes (Some k) (Some v) = eqb k 32
+is_bytes (Some k) (Some v) = are_digits (key_at k).kind
 
 -- what is wrong with what a word says
 abbrev pub told : Result Said Wrong → Result (Unit {0}) Wrong

@@ -56,9 +56,6 @@ pub struct WrongWord {
     pub to: usize,
 }
 
-// The number of bytes=.
-const BYTES: usize = 32;
-
 // Puts a word on a sheet; a wrong one changes nothing.
 #[tactic(auto, unfolding(crate::specs::Sheet::wrong_of, crate::specs::Sheet::sheet_with, crate::specs::Words::said_by))]
 pub fn take(sheet: &mut [u8], word: &[u8]) -> Result<(), Wrong>
@@ -66,11 +63,11 @@ pub fn take(sheet: &mut [u8], word: &[u8]) -> Result<(), Wrong>
     ensures sheet { sheet.new ≡ sheet_with sheet.old word.now }
 {
     let (name, value) = text::around(word, b'=');
-    let k = table::key_number(name).ok_or(Wrong::NoSuchKey)?;
+    let key = table::key(table::key_number(name).ok_or(Wrong::NoSuchKey)?);
     match value {
-        Some(digits) if k == BYTES => hex::take_bytes(sheet, digits),
+        Some(digits) if matches!(key.kind, Kind::Digits) => hex::take_bytes(sheet, digits),
         _ => {
-            let q = value::key_said(table::key(k), value)?;
+            let q = value::key_said(key, value)?;
             text::store(sheet, q.place, &q.bytes[..q.count]);
             Ok(())
         }

@@ -45,7 +45,7 @@ fn mco_hertz(key: Key, code: u8, hertz: Option<u32>) -> Result<Said, Wrong>
 
 // A source by its name, and hertz behind a colon or none.
 #[tactic(auto, unfolding(crate::specs::Words::mco_said))]
-fn mco_said(key: Key, names: &[&str], value: &[u8]) -> Result<Said, Wrong>
+fn mco_said(key: Key, names: &[&[u8]], value: &[u8]) -> Result<Said, Wrong>
     requires { length names.now ≤ 256 }
     ensures said { result ≡ Spec.mco_said key (texts_of names.now) value.now }
     ensures few { IfOk result (λ q. q.count ≤ 6) }
@@ -78,19 +78,23 @@ fn value_said(key: Key, value: &[u8]) -> Result<Said, Wrong>
 {
     match key.kind {
         Kind::Hertz => hertz_said(key, text::hertz(value)),
-        Kind::Mco1 => mco_said(key, &["hsi", "lse", "hse", "pll1q", "hsi48"], value),
+        Kind::Mco1 => mco_said(key, &[b"hsi", b"lse", b"hse", b"pll1q", b"hsi48"], value),
         Kind::Mco2 => mco_said(
             key,
-            &["sysclk", "pll2p", "hse", "pll1p", "csi", "lsi"],
+            &[b"sysclk", b"pll2p", b"hse", b"pll1p", b"csi", b"lsi"],
             value,
         ),
-        Kind::Strategy => one_byte(key, 0, text::name_number(&["integer", "fractional"], value)),
-        Kind::Count => one_byte(key, 2, text::name_number(&["two", "three"], value)),
+        Kind::Strategy => one_byte(
+            key,
+            0,
+            text::name_number(&[b"integer", b"fractional"], value),
+        ),
+        Kind::Count => one_byte(key, 2, text::name_number(&[b"two", b"three"], value)),
         Kind::Small => one_byte(key, 0, small(value)),
         Kind::Shown => one_byte(
             key,
             0,
-            text::name_number(&["plan", "entries", "bank", "bytes"], value),
+            text::name_number(&[b"plan", b"entries", b"bank", b"bytes"], value),
         ),
         Kind::Nothing | Kind::Digits => Err(Wrong::Value(key.kind)),
     }

@@ -33,9 +33,6 @@ place_below i d h = ltb-true _ _ (at_each (λ i. ltb (get_or order i d) 33) 33 r
 pub key_below : (a n d : ℕ) → n < length (drop a order) → get_or (drop a order) n d < 33
 key_below a n d h = rw get_or-drop (place_below (a + n) d (omega (arith, length-drop a order, order_length)))
 
-pub key_in : (a i : ℕ) → i < length (take (33 - a) (drop a order)) → get_or (take (33 - a) (drop a order)) i 0 < 33
-key_in a i = rw (from_place a) (key_below a i 0)
-
 module _ (f : List ℕ → ℕ → List ℕ) (s t ks : List ℕ) (i : ℕ) where
   module _ (h : i < length ks) {less : List ℕ} (e : less ≡ f t (get_or ks i 0)) {a b : Option Refusal} (u : a ≡ refusal_on less) (v : b ≡ refusal_on s) where
     pub stops : same a b ≡ false → freed_from f s t (drop i ks) ≡ Some (get_or ks i 0)

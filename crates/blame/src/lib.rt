@@ -2,7 +2,7 @@
 // single one is, the last of those that have to be taken away together.
 #![tactic(auto)]
 
-ghost use Rattle.std.specs.Prelude.{◌≡◌, ◌<◌, ℕ, List, IfSome};
+ghost use Rattle.std.specs.Prelude.{◌≡◌, ℕ, List};
 ghost use Rattle.ask.specs.Sheet.{without_key};
 ghost use Rattle.blame.specs.Blame.{start_for, refusal_on, Gives, first_freed, blamed_of, last_blamed_of};
 
@@ -41,11 +41,10 @@ fn start_for(refused: Option<Refusal>) -> usize
 }
 
 // The first key with which the next sheet that is tried is answered otherwise.
-#[tactic(auto, using(crate::proofs::Freed::key_in), unfolding(crate::specs::Blame::order))]
+#[tactic(auto, unfolding(crate::specs::Blame::order))]
 fn first_freed<F: Fn([u8; 115], usize) -> [u8; 115]>(sheet: [u8; 115], next: F) -> Option<usize>
     requires { F.IsAlwaysCallable next }
-    ensures first { (f : List ℕ → ℕ → List ℕ) → Gives (F.post next) f → result ≡ first_freed f sheet }
-    ensures inside { IfSome result (λ k. k < 33) }
+    ensures { (f : List ℕ → ℕ → List ℕ) → Gives (F.post next) f → result ≡ first_freed f sheet }
 {
     let refused = refusal_on(&sheet);
     let mut tried = sheet;
@@ -63,8 +62,7 @@ fn first_freed<F: Fn([u8; 115], usize) -> [u8; 115]>(sheet: [u8; 115], next: F) 
 // result open.
 #[tactic(auto, unfolding(crate::specs::Blame::blamed_of))]
 pub fn blamed(sheet: [u8; 115]) -> Option<usize>
-    ensures key { result ≡ blamed_of sheet }
-    ensures inside { IfSome result (λ k. k < 33) }
+    ensures { result ≡ blamed_of sheet }
 {
     first_freed(
         sheet,
@@ -77,8 +75,7 @@ pub fn blamed(sheet: [u8; 115]) -> Option<usize>
 // The number of the last key of those without which, taken away one after the other, the sheet is answered otherwise.
 #[tactic(auto, unfolding(crate::specs::Blame::last_blamed_of))]
 pub fn last_blamed(sheet: [u8; 115]) -> Option<usize>
-    ensures key { result ≡ last_blamed_of sheet }
-    ensures inside { IfSome result (λ k. k < 33) }
+    ensures { result ≡ last_blamed_of sheet }
 {
     first_freed(sheet, without)
 }

@@ -36,11 +36,7 @@ fn chip_from(chip: &[u8]) -> Chip
 pub fn checked(chip: &[u8], fits: bool) -> Chip
     ensures { result ≡ checked_chip chip.now fits }
 {
-    if chip.len() != 7 {
-        return chip_of(0, 0, 0, 0, 0, 0, 0);
-    }
-    let other = !fits;
-    if other {
+    if chip.len() != 7 || !fits {
         return chip_of(0, 0, 0, 0, 0, 0, 0);
     }
     chip_from(chip)

@@ -38,11 +38,8 @@ pub fn clocks<S: Sink>(w: Waits, sel: &Selectors, m: &Mcos, s: &mut S, room: &mu
 pub fn hse_on<S: Sink>(hse: Option<u32>, bypass: bool, s: &mut S, room: &mut [u32])
     ensures { (s.new, room.new) ≡ told S.after (hse_entries hse bypass) (s.old, room.old) }
 {
-    match hse {
-        None => {}
-        Some(_) => {
-            s.set2(HSEON, 1, HSEBYP, u32::from(bypass), room);
-            s.wait(HSERDY, 1, room)
-        }
+    if hse.is_some() {
+        s.set2(HSEON, 1, HSEBYP, u32::from(bypass), room);
+        s.wait(HSERDY, 1, room)
     }
 }

@@ -11,7 +11,7 @@ use types::{PLL1, PLL2, PLL3, PllNumber, PllOutput, PllSettings};
 fn base<S: Sink>(pll: PllNumber, x: &PllSettings, s: &mut S, room: &mut [u32])
     ensures { (s.new, room.new) ≡ told S.after (base_entries pll.k x.now) (s.old, room.old) }
 {
-    let at = 15 * pll.k;
+    let at = of_pll(pll);
     s.set(at + VCOSEL, x.vcosel, room);
     s.set(at + RGE, x.rge, room);
     s.set(at + M, x.m, room);
@@ -22,14 +22,11 @@ fn base<S: Sink>(pll: PllNumber, x: &PllSettings, s: &mut S, room: &mut [u32])
 fn fraction<S: Sink>(pll: PllNumber, f: Option<u32>, s: &mut S, room: &mut [u32])
     ensures { (s.new, room.new) ≡ told S.after (fraction_entries pll.k f) (s.old, room.old) }
 {
-    match f {
-        None => {}
-        Some(n) => {
-            let at = 15 * pll.k;
-            s.set(at + FRACN, n, room);
-            s.set(at + FRACEN, 0, room);
-            s.set(at + FRACEN, 1, room)
-        }
+    if let Some(n) = f {
+        let at = of_pll(pll);
+        s.set(at + FRACN, n, room);
+        s.set(at + FRACEN, 0, room);
+        s.set(at + FRACEN, 1, room)
     }
 }
 
@@ -51,7 +48,7 @@ fn output<S: Sink>(divider: usize, enable: usize, o: Option<PllOutput>, s: &mut 
 fn setting<S: Sink>(pll: PllNumber, x: &PllSettings, s: &mut S, room: &mut [u32])
     ensures { (s.new, room.new) ≡ told S.after (setting_entries pll.k x.now) (s.old, room.old) }
 {
-    let at = 15 * pll.k;
+    let at = of_pll(pll);
     base(pll, x, s, room);
     fraction(pll, x.fraction, s, room);
     output(at + P, at + PEN, x.p, s, room);
@@ -63,9 +60,8 @@ fn setting<S: Sink>(pll: PllNumber, x: &PllSettings, s: &mut S, room: &mut [u32]
 fn set_up<S: Sink>(pll: PllNumber, x: &Option<PllSettings>, s: &mut S, room: &mut [u32])
     ensures { (s.new, room.new) ≡ told S.after (setup_entries pll.k x.now) (s.old, room.old) }
 {
-    match x {
-        None => {}
-        Some(settings) => setting(pll, settings, s, room),
+    if let Some(settings) = x {
+        setting(pll, settings, s, room)
     }
 }
 
@@ -83,10 +79,10 @@ pub fn set_up_all<S: Sink>(plls: &[Option<PllSettings>; 3], s: &mut S, room: &mu
 pub fn sources<S: Sink>(three: bool, src: u32, s: &mut S, room: &mut [u32])
     ensures { (s.new, room.new) ≡ told S.after (source_entries three src) (s.old, room.old) }
 {
-    s.set(SRC, src, room);
-    s.set(15 + SRC, src, room);
+    s.set(of_pll(PLL1) + SRC, src, room);
+    s.set(of_pll(PLL2) + SRC, src, room);
     if three {
-        s.set(30 + SRC, src, room);
+        s.set(of_pll(PLL3) + SRC, src, room);
     }
 }
 
@@ -94,13 +90,10 @@ pub fn sources<S: Sink>(three: bool, src: u32, s: &mut S, room: &mut [u32])
 fn start_output<S: Sink>(pll: PllNumber, p: Option<PllOutput>, s: &mut S, room: &mut [u32])
     ensures { (s.new, room.new) ≡ told S.after (output_start pll.k p) (s.old, room.old) }
 {
-    match p {
-        None => {}
-        Some(_) => {
-            let at = 15 * pll.k;
-            s.set(at + ON, 1, room);
-            s.wait(at + RDY, 1, room)
-        }
+    if p.is_some() {
+        let at = of_pll(pll);
+        s.set(at + ON, 1, room);
+        s.wait(at + RDY, 1, room)
     }
 }
 
@@ -108,9 +101,8 @@ fn start_output<S: Sink>(pll: PllNumber, p: Option<PllOutput>, s: &mut S, room: 
 fn start<S: Sink>(pll: PllNumber, x: &Option<PllSettings>, s: &mut S, room: &mut [u32])
     ensures { (s.new, room.new) ≡ told S.after (start_entries pll.k x.now) (s.old, room.old) }
 {
-    match x {
-        None => {}
-        Some(settings) => start_output(pll, settings.p, s, room),
+    if let Some(settings) = x {
+        start_output(pll, settings.p, s, room)
     }
 }
 

@@ -1,7 +1,7 @@
 -- What is read of one clock, by document 01, 'The clock tree'.
 use Rattle.std.specs.Prelude.{cond, List, [], ◌∷◌, ℕ, ◌*◌, ◌/◌, eqb, leb, get_or, Option, Some, None}
 use Rattle.rules.specs.Manual.Path.{num, den, pll1, pll2, pll3}
-use Rattle.rules.specs.Manual.Tree.{Oscillator, Chain, none, along, P, Q, R, sys, hclk, pclk1, pclk2, pclk3, timx, timy, per, hsi, csi, hsi48, lsi, hse, mco1, mco2, output, path_of, among}
+use Rattle.rules.specs.Manual.Tree.{Oscillator, Chain, none, along, P, Q, R, sys, hclk, pclk1, pclk2, pclk3, timx, timy, per, hsi, csi, hsi48, lsi, hse, mco1, mco2, output, path_of, among, over}
 use Rattle.exact.specs.declared.Exact.{Exact}
 
 -- the clocks of the report in its order (docs/CODES.md, The C functions). 'LSE gives none'; audio is no clock of the tree
@@ -27,12 +27,17 @@ abbrev pub reading_of : Chain → Option Exact
 reading_of none = None
 reading_of (along p) = Some (record { numerator = cap (num p); denominator = cap (den p) })
 
--- a timer's one division, by TIMPRE and PPRE; 0 for a PPRE other than 1, 2, 4, 8, 16
-abbrev pub timer_divisor : (timpre ppre : ℕ) → ℕ
+-- a timer's one division, by TIMPRE and PPRE; none for a PPRE other than 1, 2, 4, 8, 16
+abbrev pub timer_divisor : (timpre ppre : ℕ) → Option ℕ
 timer_divisor t p =
     cond (eqb t 0)
-    (cond (among (1 ∷ 2 ∷ []) p) 1 (cond (among (4 ∷ 8 ∷ 16 ∷ []) p) (p / 2) 0))
-    (cond (among (1 ∷ 2 ∷ 4 ∷ []) p) 1 (cond (among (8 ∷ 16 ∷ []) p) (p / 4) 0))
+    (cond (among (1 ∷ 2 ∷ []) p) (Some 1) (cond (among (4 ∷ 8 ∷ 16 ∷ []) p) (Some (p / 2)) None))
+    (cond (among (1 ∷ 2 ∷ 4 ∷ []) p) (Some 1) (cond (among (8 ∷ 16 ∷ []) p) (Some (p / 4)) None))
+
+-- a clock divided by what there is; none where there is nothing
+abbrev pub over_some : Chain → Option ℕ → Chain
+over_some c None = none
+over_some c (Some d) = over c d
 
 -- ---- for the private functions
 -- a clock times a / b, of the two numbers as they show

@@ -6,8 +6,7 @@ ghost use Rattle.rules.specs.Manual.Tree.{fed_by};
 ghost use Rattle.exact.specs.Exact.{path_by, reading_of};
 
 use bank::Bank;
-use fields::{CSION, HSI48ON, LSION, P, PPRE1, PPRE2, PPRE3, Q, R};
-use oscillators::{CSI, HSI48, LSI};
+use fields::{P, PPRE1, PPRE2, PPRE3, Q, R};
 use types::{PLL1, PLL2, PLL3};
 
 mod bank;
@@ -27,7 +26,7 @@ pub struct Exact {
 }
 
 // The clock at this number of the report, where it comes from one: docs/CODES.md, The C functions. LSE and audio have no path in the tree.
-#[tactic(auto, using(crate::proofs::Chains::chains), unfolding(crate::specs::Exact::clocks_by, rules::specs::Manual::Tree::path_of, rules::specs::Manual::Tree::csi_of, rules::specs::Manual::Tree::hsi48_of, rules::specs::Manual::Tree::lsi_of))]
+#[tactic(auto, using(crate::proofs::Chains::chains), unfolding(crate::specs::Exact::clocks_by, rules::specs::Manual::Tree::path_of))]
 pub fn clock_reading(bank: &[u32], hse: Option<u32>, clock: usize) -> Option<Exact>
     ensures { result ≡ reading_of (path_by bank.now (fed_by hse) clock) }
 {
@@ -42,9 +41,9 @@ pub fn clock_reading(bank: &[u32], hse: Option<u32>, clock: usize) -> Option<Exa
         6 => b.timer(PPRE2),
         7 => b.per(),
         8 => b.hsi(),
-        9 => b.fixed(CSION, CSI),
-        10 => b.fixed(HSI48ON, HSI48),
-        11 => b.fixed(LSION, LSI),
+        9 => b.csi(),
+        10 => b.hsi48(),
+        11 => b.lsi(),
         12 => b.hse(),
         13 | 14 => None,
         15 => b.mco1(),

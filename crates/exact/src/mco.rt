@@ -6,13 +6,12 @@ ghost use Rattle.exact.specs.Exact.{reading_of};
 
 use crate::Exact;
 use crate::bank::Bank;
-use crate::oscillators::{CSI, HSI48, LSI};
-use fields::{CSION, HSI48ON, LSION, MCO1PRE, MCO1SEL, MCO2PRE, MCO2SEL, P, Q};
+use fields::{MCO1PRE, MCO1SEL, MCO2PRE, MCO2SEL, P, Q};
 use types::{PLL1, PLL2};
 
 impl Bank<'_> {
     // The clock that MCO1 divides. MCO1SEL: 0 HSI, 1 LSE, which gives none, 2 HSE, 3 PLL1 Q, 4 HSI48.
-    #[tactic(auto, using(crate::proofs::Chains::chains), unfolding(rules::specs::Manual::Tree::hsi48_of))]
+    #[tactic(auto, using(crate::proofs::Chains::chains))]
     fn mco1_source(&self) -> Option<Exact>
         ensures { result ≡ reading_of (Tree.mco1_source_of self.now.words.now (fed_by self.now.hse)) }
     {
@@ -20,7 +19,7 @@ impl Bank<'_> {
             0 => self.hsi(),
             2 => self.hse(),
             3 => self.output(PLL1, Q),
-            4 => self.fixed(HSI48ON, HSI48),
+            4 => self.hsi48(),
             _ => None,
         }
     }
@@ -34,7 +33,7 @@ impl Bank<'_> {
     }
 
     // The clock that MCO2 divides. MCO2SEL: 0 system, 1 PLL2 P, 2 HSE, 3 PLL1 P, 4 CSI, 5 LSI.
-    #[tactic(auto, using(crate::proofs::Chains::chains), unfolding(rules::specs::Manual::Tree::csi_of, rules::specs::Manual::Tree::lsi_of))]
+    #[tactic(auto, using(crate::proofs::Chains::chains),)]
     fn mco2_source(&self) -> Option<Exact>
         ensures { result ≡ reading_of (Tree.mco2_source_of self.now.words.now (fed_by self.now.hse)) }
     {
@@ -43,8 +42,8 @@ impl Bank<'_> {
             1 => self.output(PLL2, P),
             2 => self.hse(),
             3 => self.output(PLL1, P),
-            4 => self.fixed(CSION, CSI),
-            5 => self.fixed(LSION, LSI),
+            4 => self.csi(),
+            5 => self.lsi(),
             _ => None,
         }
     }

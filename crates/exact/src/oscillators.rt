@@ -7,19 +7,12 @@ ghost use Rattle.exact.specs.Exact.{reading_of};
 
 use crate::Exact;
 use crate::bank::Bank;
-use fields::{HSEON, HSIDIV, HSION};
-
-// The hertz of CSI, HSI48 and LSI.
-pub const CSI: u64 = 4_000_000;
-
-pub const HSI48: u64 = 48_000_000;
-
-pub const LSI: u64 = 32_000;
+use fields::{CSION, HSEON, HSI48ON, HSIDIV, HSION, LSION};
 
 impl Bank<'_> {
     // An oscillator of these hertz, by its ON.
     #[tactic(auto, using(crate::proofs::Chains::chains))]
-    pub fn fixed(&self, on: usize, hertz: u64) -> Option<Exact>
+    fn fixed(&self, on: usize, hertz: u64) -> Option<Exact>
         ensures { result ≡ reading_of (from_oscillator (switched (word_of self.now.words.now on) (runs hertz))) }
     {
         if self.word(on) == 0 {
@@ -43,6 +36,30 @@ impl Bank<'_> {
             8 => self.fixed(HSION, 8_000_000),
             _ => None,
         }
+    }
+
+    // 4,000,000 Hz.
+    #[tactic(auto, unfolding(rules::specs::Manual::Tree::csi_of))]
+    pub fn csi(&self) -> Option<Exact>
+        ensures { (fed : Oscillator) → result ≡ reading_of (from_oscillator (Tree.csi_of self.now.words.now fed)) }
+    {
+        self.fixed(CSION, 4_000_000)
+    }
+
+    // 48,000,000 Hz.
+    #[tactic(auto, unfolding(rules::specs::Manual::Tree::hsi48_of))]
+    pub fn hsi48(&self) -> Option<Exact>
+        ensures { (fed : Oscillator) → result ≡ reading_of (from_oscillator (Tree.hsi48_of self.now.words.now fed)) }
+    {
+        self.fixed(HSI48ON, 48_000_000)
+    }
+
+    // 32,000 Hz.
+    #[tactic(auto, unfolding(rules::specs::Manual::Tree::lsi_of))]
+    pub fn lsi(&self) -> Option<Exact>
+        ensures { (fed : Oscillator) → result ≡ reading_of (from_oscillator (Tree.lsi_of self.now.words.now fed)) }
+    {
+        self.fixed(LSION, 32_000)
     }
 
     // HSE as fed.

@@ -7,9 +7,8 @@ ghost use Rattle.rules.specs.Manual.Tree.{fed_by};
 ghost use Rattle.exact.specs.Exact.{reading_of};
 
 use crate::bank::Bank;
-use crate::oscillators::CSI;
 use crate::{Exact, steps};
-use fields::{CSION, FRACEN, FRACN, M, N, ON, SRC, of_pll};
+use fields::{FRACEN, FRACN, M, N, ON, SRC, of_pll};
 use types::PllNumber;
 
 impl Bank<'_> {
@@ -18,17 +17,17 @@ impl Bank<'_> {
         requires { f < 15 }
         ensures { (j : PllName) → number j ≡ pll.k → result ≡ pll_word self.now.words.now j f }
     {
-        self.word(of_pll(pll, f))
+        self.word(of_pll(pll) + f)
     }
 
     // SRC: 0 none, 1 HSI, 2 CSI, 3 HSE.
-    #[tactic(auto, using(crate::proofs::Chains::chains), unfolding(rules::specs::Manual::Tree::source_of, rules::specs::Manual::Tree::csi_of))]
+    #[tactic(auto, using(crate::proofs::Chains::chains), unfolding(rules::specs::Manual::Tree::source_of))]
     fn source(&self, pll: PllNumber) -> Option<Exact>
         ensures { (j : PllName) → number j ≡ pll.k → result ≡ reading_of (from_oscillator (Tree.source_of self.now.words.now (fed_by self.now.hse) j)) }
     {
         match self.pll_word(pll, SRC) {
             1 => self.hsi(),
-            2 => self.fixed(CSION, CSI),
+            2 => self.csi(),
             3 => self.hse(),
             _ => None,
         }

@@ -3,7 +3,7 @@ ghost use Rattle.std.specs.Prelude.{◌≡◌, ◌+◌};
 ghost use Rattle.rules.specs.Manual.Path.{PllName};
 ghost use Rattle.rules.specs.Manual.Tree as Tree;
 ghost use Rattle.rules.specs.Manual.Tree.{Oscillator, Chain, from_oscillator};
-ghost use Rattle.exact.specs.Exact.{reading_of, scaled_by, timer_divisor};
+ghost use Rattle.exact.specs.Exact.{over_some, reading_of, scaled_by, timer_divisor};
 
 use crate::Exact;
 
@@ -30,19 +30,19 @@ pub fn over(clock: Option<Exact>, d: u64) -> Option<Exact>
     scaled(clock, 1, d)
 }
 
-// What the timers on an APB divide AHB by: PPRE / 2 from PPRE 4 up under TIMPRE 0, PPRE / 4 from 8 up else, and 1 below; 0, which gives none, for
-// a PPRE other than 1, 2, 4, 8, 16.
+// What the timers on an APB divide AHB by: PPRE / 2 from PPRE 4 up under TIMPRE 0, PPRE / 4 from 8 up else, and 1 below; nothing for a PPRE other
+// than 1, 2, 4, 8, 16, which gives no clock.
 #[tactic(auto, using(crate::proofs::Chains::chains))]
-pub fn timer_divisor(timpre: u32, ppre: u32) -> u32
+pub fn timer_divisor(timpre: u32, ppre: u32) -> Option<u32>
     ensures divisor { result ≡ timer_divisor timpre ppre }
-    ensures clock { (c : Chain) → reading_of (Tree.over c result) ≡ reading_of (Tree.timer_by timpre ppre c) }
+    ensures clock { (c : Chain) → reading_of (over_some c result) ≡ reading_of (Tree.timer_by timpre ppre c) }
 {
     match ppre {
-        1 | 2 => 1,
-        4 => if timpre == 0 { 2 } else { 1 },
-        8 => if timpre == 0 { 4 } else { 2 },
-        16 => if timpre == 0 { 8 } else { 4 },
-        _ => 0,
+        1 | 2 => Some(1),
+        4 => Some(if timpre == 0 { 2 } else { 1 }),
+        8 => Some(if timpre == 0 { 4 } else { 2 }),
+        16 => Some(if timpre == 0 { 8 } else { 4 }),
+        _ => None,
     }
 }
 

@@ -2,7 +2,7 @@
 // a bank at reset values.
 #![tactic(auto)]
 
-ghost use Rattle.std.specs.Prelude.{◌≡◌, set, ◌-◌, ◌<◌};
+ghost use Rattle.std.specs.Prelude.{◌≡◌, set, ◌-◌};
 ghost use Rattle.rules.specs.Document01.Fields.{of_pll};
 ghost use Rattle.rules.specs.Document01.Entries.{prften_of};
 ghost use Rattle.rules.specs.Document01.Bank.{reset_bank};
@@ -118,12 +118,11 @@ pub const ACTVOSRDY: usize = 80;
 
 pub const VOSRDY: usize = 81;
 
-// A field of a PLL.
-pub fn of_pll(pll: PllNumber, field: usize) -> usize
-    requires { field < 15 }
-    ensures { result ≡ of_pll pll.k field }
+// Where a PLL's fields begin.
+pub fn of_pll(pll: PllNumber) -> usize
+    ensures { result ≡ of_pll pll.k 0 }
 {
-    15 * pll.k + field
+    15 * pll.k
 }
 
 // N − 1, and divider − 1 for P, Q and R; 0 of 0.

@@ -2,10 +2,9 @@
 ghost use Rattle.std.specs.Prelude.{◌≡◌};
 ghost use Rattle.rules.specs.Document01.Buses.{peripheral_of};
 ghost use Rattle.rules.specs.Document01.Plan as Rules;
-ghost use Rattle.rules.specs.Document01.Request.{needs_pll1};
 
-use crate::codes;
-use types::{Buses, ChipState, Clocks, Mcos, Plan, PllSettings, Request, Selected};
+use crate::settled::Settled;
+use types::{Buses, Clocks, Mcos, Plan, PllSettings, Request, Selected};
 
 // The clocks, by the peripheral clock.
 fn clocks(q: &Request, system: u32, per: Selected, b: Buses) -> Clocks
@@ -28,28 +27,29 @@ fn clocks(q: &Request, system: u32, per: Selected, b: Buses) -> Clocks
     }
 }
 
-#[tactic(auto, unfolding(rules::specs::Document01::Plan::plan_with))]
-pub fn accepted(
-    q: &Request,
-    c: &ChipState,
-    needs: bool,
-    system: u32,
-    plls: &[Option<PllSettings>; 3],
-    buses: Buses,
-    mcos: Mcos,
-) -> Plan
-    requires { (needs ≡ needs_pll1 q.now) × (system ≡ Rules.system_from q.now plls.now) }
-    ensures { result ≡ Rules.plan_with q.now c.now plls.now buses mcos }
-{
-    let per = core_clocks::peripheral(q.peripheral, q.hse);
-    Plan {
-        clocks: clocks(q, system, per, buses),
-        buses,
-        mcos,
-        waits: flash::flash_setup(buses.ahb.clock, c.scale),
-        selectors: codes::selectors(q, needs, per),
-        bypass: q.bypass,
-        three: c.three,
-        plls: *plls,
+impl Settled<'_> {
+    #[tactic(auto, unfolding(rules::specs::Document01::Plan::plan_with))]
+    pub fn accepted(
+        &self,
+        system: u32,
+        plls: &[Option<PllSettings>; 3],
+        buses: Buses,
+        mcos: Mcos,
+    ) -> Plan
+        requires { system ≡ Rules.system_from self.now.q.now plls.now }
+        ensures { result ≡ Rules.plan_with self.now.q.now self.now.c.now plls.now buses mcos }
+    {
+        let q = self.q;
+        let per = core_clocks::peripheral(q.peripheral, q.hse);
+        Plan {
+            clocks: clocks(q, system, per, buses),
+            buses,
+            mcos,
+            waits: flash::flash_setup(buses.ahb.clock, self.c.scale),
+            selectors: self.selectors(per),
+            bypass: q.bypass,
+            three: self.c.three,
+            plls: *plls,
+        }
     }
 }

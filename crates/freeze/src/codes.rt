@@ -2,9 +2,9 @@
 ghost use Rattle.std.specs.Prelude.{◌≡◌};
 ghost use Rattle.rules.specs.Document01.Buses.{peripheral_of};
 ghost use Rattle.rules.specs.Document01.Plan as Rules;
-ghost use Rattle.rules.specs.Document01.Request.{needs_pll1};
 
-use types::{Request, Selected, Selectors};
+use crate::settled::Settled;
+use types::{Selected, Selectors};
 
 fn src_of(hse: Option<u32>) -> u32
     ensures { result ≡ Rules.src_of hse }
@@ -27,16 +27,19 @@ fn sw_of(needs: bool, hse: Option<u32>) -> u32
     }
 }
 
-// The codes, by the peripheral clock and whether the system clock is PLL1 P.
-pub fn selectors(q: &Request, needs: bool, per: Selected) -> Selectors
-    requires { (needs ≡ needs_pll1 q.now) × (per ≡ peripheral_of q.now.peripheral q.now.hse) }
-    ensures { result ≡ Rules.selectors_of q.now }
-{
-    Selectors {
-        src: src_of(q.hse),
-        sw: sw_of(needs, q.hse),
-        ckpersel: per.sel,
-        mco1sel: q.mco1source as u32,
-        mco2sel: q.mco2source as u32,
+impl Settled<'_> {
+    // The codes, by the peripheral clock and whether the system clock is PLL1 P.
+    pub fn selectors(&self, per: Selected) -> Selectors
+        requires { per ≡ peripheral_of self.now.q.now.peripheral self.now.q.now.hse }
+        ensures { result ≡ Rules.selectors_of self.now.q.now }
+    {
+        let q = self.q;
+        Selectors {
+            src: src_of(q.hse),
+            sw: sw_of(self.s.needs, q.hse),
+            ckpersel: per.sel,
+            mco1sel: q.mco1source as u32,
+            mco2sel: q.mco2source as u32,
+        }
     }
 }

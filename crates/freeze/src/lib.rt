@@ -1,17 +1,16 @@
 // From a typed request and the chip's state to one complete plan or one refusal: 1, or one of 3 to 23. rcc.rs (freeze).
 #![tactic(auto)]
 
-ghost use Rattle.std.specs.Prelude.{◌≡◌, ◌≤◌, Ok};
-ghost use Rattle.config.specs.Config.{settled};
+ghost use Rattle.std.specs.Prelude.{◌≡◌, Ok};
 ghost use Rattle.rules.specs.Document01.Plan as Rules;
-ghost use Rattle.rules.specs.Document01.Request.{configured, needs_pll1, source_of};
 
-use config::Configured;
+use settled::Settled;
 use types::{ChipState, Hsidiv, PLL1, PLL2, PLL3, Plan, PllSettings, Refusal, Request};
 
 mod assemble;
 mod codes;
 mod plls;
+mod settled;
 
 // A typed request. One for two PLLs with anything in its third part is refusal 1, as its bytes would be.
 #[tactic(auto, unfolding(rules::specs::Document01::Plan::answer_typed))]
@@ -31,38 +30,33 @@ fn chosen(q: &Request, c: &ChipState) -> Result<Plan, Refusal>
     ensures { result ≡ Rules.chosen_plan q.now c.now }
 {
     let s = config::configure(q)?;
-    planned(q, c, &s)
+    Settled { q, c, s: &s }.planned()
 }
 
-// The PLLs, then what follows them.
-#[tactic(auto, unfolding(rules::specs::Document01::Plan::chosen_plan, rules::specs::Document01::Plan::plls_of))]
-fn planned(q: &Request, c: &ChipState, s: &Configured) -> Result<Plan, Refusal>
-    requires { (configured q.now ≡ Ok tt) × (s.now ≡ settled q.now) × (1 ≤ s.now.source) }
-    ensures { result ≡ Rules.chosen_plan q.now c.now }
-{
-    let pll1 = plls::plan_at(c, s.source, s.plls[0], PLL1)?;
-    let pll2 = plls::plan_at(c, s.source, s.plls[1], PLL2)?;
-    let pll3 = plls::plan_at(c, s.source, s.plls[2], PLL3)?;
-    rest(q, c, s.needs, s.source, &[pll1, pll2, pll3])
-}
+impl Settled<'_> {
+    // The PLLs, then what follows them.
+    #[tactic(auto, unfolding(rules::specs::Document01::Plan::chosen_plan, rules::specs::Document01::Plan::plls_of))]
+    fn planned(&self) -> Result<Plan, Refusal>
+        ensures { result ≡ Rules.chosen_plan self.now.q.now self.now.c.now }
+    {
+        let pll1 = self.pll(PLL1)?;
+        let pll2 = self.pll(PLL2)?;
+        let pll3 = self.pll(PLL3)?;
+        self.rest(&[pll1, pll2, pll3])
+    }
 
-// Refusals 16 and 17, then the clocks behind the PLLs.
-#[tactic(auto, unfolding(rules::specs::Document01::Plan::chosen_plan))]
-fn rest(
-    q: &Request,
-    c: &ChipState,
-    needs: bool,
-    source: u32,
-    plls: &[Option<PllSettings>; 3],
-) -> Result<Plan, Refusal>
-    requires { (Rules.plls_of q.now c.now ≡ Ok plls.now) × (needs ≡ needs_pll1 q.now) × (source ≡ source_of q.now) }
-    ensures { result ≡ Rules.chosen_plan q.now c.now }
-{
-    hsi_ready(c)?;
-    let system = core_clocks::system_from(needs, source, plls);
-    let buses = core_clocks::bus_clocks(q, system)?;
-    let mcos = core_clocks::mco_clocks(q, plls, system)?;
-    Ok(assemble::accepted(q, c, needs, system, plls, buses, mcos))
+    // Refusals 16 and 17, then the clocks behind the PLLs.
+    #[tactic(auto, unfolding(rules::specs::Document01::Plan::chosen_plan))]
+    fn rest(&self, plls: &[Option<PllSettings>; 3]) -> Result<Plan, Refusal>
+        requires { Rules.plls_of self.now.q.now self.now.c.now ≡ Ok plls.now }
+        ensures { result ≡ Rules.chosen_plan self.now.q.now self.now.c.now }
+    {
+        hsi_ready(self.c)?;
+        let system = core_clocks::system_from(self.s.needs, self.s.source, plls);
+        let buses = core_clocks::bus_clocks(self.q, system)?;
+        let mcos = core_clocks::mco_clocks(self.q, plls, system)?;
+        Ok(self.accepted(system, plls, buses, mcos))
+    }
 }
 
 // Refusals 16 and 17.

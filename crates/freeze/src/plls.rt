@@ -1,24 +1,20 @@
 // One function plans a PLL, by its number. rcc.rs (the pll_setup! calls).
-ghost use Rattle.std.specs.Prelude.{◌≡◌, ◌≤◌, cond, None, Ok};
-ghost use Rattle.rules.specs.Document01.Chip.{odd_at, has_pll};
-ghost use Rattle.rules.specs.Document01.OnePll.{pll_of};
+ghost use Rattle.std.specs.Prelude.{◌≡◌};
+ghost use Rattle.rules.specs.Document01.Plan as Rules;
 
-use types::{ChipState, PllNumber, PllRequest, PllSettings, Refusal};
+use crate::settled::Settled;
+use types::{PllNumber, PllSettings, Refusal};
 
-// A PLL, where the chip has it.
-#[tactic(auto, unfolding(pll::specs::Answer::one_pll_of))]
-pub fn plan_at(
-    c: &ChipState,
-    source: u32,
-    request: PllRequest,
-    pll: PllNumber,
-) -> Result<Option<PllSettings>, Refusal>
-    requires { 1 ≤ source }
-    ensures { result ≡ cond (has_pll c.now pll.k) (pll_of (odd_at c.now pll.k) source request) (Ok None) }
-{
-    let there = (pll.k < 2) | c.three;
-    if !there {
-        return Ok(None);
+impl Settled<'_> {
+    // A PLL, where the chip has it.
+    #[tactic(auto, unfolding(pll::specs::Answer::one_pll_of))]
+    pub fn pll(&self, pll: PllNumber) -> Result<Option<PllSettings>, Refusal>
+        ensures { result ≡ Rules.planned_at self.now.q.now self.now.c.now pll.k }
+    {
+        let there = (pll.k < 2) | self.c.three;
+        if !there {
+            return Ok(None);
+        }
+        pll::plan_pll(self.c.odd[pll.k], self.s.source, self.s.plls[pll.k])
     }
-    pll::plan_pll(c.odd[pll.k], source, request)
 }

@@ -7,6 +7,7 @@ use native.Mathlib.Omega.{arith}
 use borrow.Author.Tests.{le-leb, lt-leb, leb-true, leb-false}
 use lib.Dec.{leb}
 use lib.ListN.{length, set, take, drop}
+use Rattle.std.proofs.lemmas.List.{take_all, drop_all}
 use Rattle.types.specs.declared.Entry.{Entry}
 use Rattle.rules.specs.Words.{entry_words, stored_at, listed_from, listed}
 use Rattle.listing.specs.Showing.{showing, show_one, show_all}
@@ -60,14 +61,6 @@ pub no_list : (es : List Entry) (b : List ℕ) → length b ≡ 0 → b ≡ list
 no_list es (x ∷ b) h = absurd (omega arith)
 no_list es [] h = none_listed es 1
 
-take_all : (b : List ℕ) → take (length b) b ≡ b
-take_all [] = refl
-take_all (x ∷ b) = ap (x ∷◌) (take_all b)
-
-drop_all : (b : List ℕ) → drop (length b) b ≡ []
-drop_all [] = refl
-drop_all (x ∷ b) = drop_all b
-
 module _ (es : List Entry) {at : ℕ} {down : Bool} {c : List ℕ} where
   by_list : (b : List ℕ) → record { at = at; down = down; room = c } ≡ show_all [] es (showing 0 b) → (at ∷ c ≡ listed_from (length es ∷ b) 1 es) × (at ≡ length es)
   by_list b s =
@@ -79,8 +72,7 @@ module _ (es : List Entry) {at : ℕ} {down : Bool} {c : List ℕ} where
       → (set (take 1 list ++ (c ++ drop (length list - 1) (drop 1 list))) 0 at ≡ listed es list) × (at ≡ length es)
   whole [] h s = absurd (h refl)
   whole (x ∷ b) h s =
-      let l : length (x ∷ b) - 1 ≡ length b = omega arith in
-      let a : take (length (x ∷ b) - 1) b ≡ b = ap (λ z. take z b) l ∙ take_all b in
-      let d : drop (length (x ∷ b) - 1) b ≡ [] = ap (λ z. drop z b) l ∙ drop_all b in
+      let a : take (length (x ∷ b) - 1) b ≡ b = take_all _ b (omega arith) in
+      let d : drop (length (x ∷ b) - 1) b ≡ [] = drop_all _ b (omega arith) in
       let r = by_list b (rw a at s) in
       (ap (λ z. at ∷ (c ++ z)) d ∙ ap (at ∷◌) (append-nil c) ∙ r.0, r.1)

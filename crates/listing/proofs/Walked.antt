@@ -2,14 +2,14 @@
 use Rattle.std.specs.Prelude.{Result, Ok, Err}
 use mathlib.Core.Path.{◌≡◌, refl, ◌∙◌, sym, ap}
 use mathlib.Core.Bool.{Bool, true, false, cond}
-use mathlib.Core.List.{List, [], ◌∷◌, ◌++◌}
-use Prim.Native.Nat.{ℕ, zero, suc, ◌+◌, ◌*◌, ◌-◌, ◌/◌, ◌≤◌, ◌<◌}
+use mathlib.Core.List.{List, [], ◌∷◌, ◌++◌, append-nil}
+use Prim.Native.Nat.{ℕ, zero, suc, ◌+◌, ◌*◌, ◌-◌, ◌≤◌, ◌<◌}
 use native.Mathlib.Omega.{arith}
-use borrow.Author.Tests.{lt-ltb, le-leb, ltb-true, ltb-false}
-use lib.Dec.{eqb, ltb}
+use borrow.Author.Tests.{lt-ltb, le-leb, leb-true, leb-false, ltb-true, ltb-false}
+use lib.Dec.{eqb, ltb, leb}
 use lib.ListN.{length, get_or, set, take, drop, length-take, length-append, length-set}
 use lib.Seq.{get_or-take}
-use Rattle.std.proofs.lemmas.List.{set-append_left, take-append-drop}
+use Rattle.std.proofs.lemmas.List.{set-append_left, take-append-drop, take_all, drop_all}
 use Rattle.types.specs.declared.Refusal.{Refusal}
 use Rattle.types.specs.declared.Entry.{Entry}
 use Rattle.types.specs.declared.Entry.TheVariants.{Set, Set2, Set3, Set4, Wait, Wait2, Check, Read}
@@ -17,13 +17,13 @@ use Rattle.types.specs.declared.Refusal.TheVariants.{CsiDown}
 use Rattle.types.specs.declared.Plan.{Plan}
 use Rattle.rules.specs.Document01.Entries.{plan_entries, entries_of}
 use Rattle.rules.specs.Document01.Walk.{Stand, before, ended, shown_of, passes, is_check, stepped_of, fresh_of}
-use Rattle.rules.specs.Words.{entry_words, shown_words, three_at, stored_at, stand_after, ran, shown_count}
-use Rattle.rules.proofs.Document01.Run.{stored_length}
+use Rattle.rules.specs.Words.{entry_words, shown_words, three_at, stored_at, stand_after, ran}
+use Rattle.rules.proofs.Document01.Run.{stored_length, ran_length}
 use Rattle.listing.specs.Showing.{Showing, showing, seen, passed_at, once, show_one, show_all}
 use Rattle.listing.specs.Walked.{filled, last_read, end_of}
 use Rattle.listing.proofs.Showing.{no_room, not_passed, one_step, ended_stays}
 
-module _ (s₀ : Stand) (reads room₀ : List ℕ) (n : ℕ) (enough : last_read n ≤ length reads) (all : length room₀ ≡ 9 * n) where
+module _ (s₀ : Stand) (reads room₀ : List ℕ) (n : ℕ) (enough : last_read n ≤ length reads) (all : length room₀ ≤ 9 * n) where
   abbrev those : List ℕ
   those = take (last_read n) reads
 
@@ -126,7 +126,7 @@ pub fills_on : (n k : ℕ) (w room : List ℕ) → k < n → filled (n - (k + 1)
 fills_on n k w room h = let l : n - k ≡ suc (n - (k + 1)) = omega arith in rw l refl
 
 -- ---- of an answer
-all_led : (x : Result Plan Refusal) (reads room : List ℕ) (n : ℕ) (enough : last_read n ≤ length reads) (all : length room ≡ 9 * n)
+all_led : (x : Result Plan Refusal) (reads room : List ℕ) (n : ℕ) (enough : last_read n ≤ length reads) (all : length room ≤ 9 * n)
     → Stands (fresh_of x) reads room n enough all (show_all (take (last_read n) reads) (entries_of x) (showing 0 room)) (end_of x (show_all (take (last_read n) reads) (entries_of x) (showing 0 room)).down)
 unfolding entries_of
 all_led (Ok p) reads room n enough all = list_led (before (plan_entries p)) reads room n enough all (plan_entries p) 0 room (fresh (before (plan_entries p)) reads room n enough all)
@@ -161,40 +161,42 @@ behind b c i w h =
     ∙ ap (λ r. three_at r (i + 6) (get_or w 6 0) (get_or w 7 0) (get_or w 8 0)) (three_behind b₁ c (i + 3) (get_or w 3 0) (get_or w 4 0) (get_or w 5 0) (omega arith))
     ∙ three_behind b₂ c (i + 6) (get_or w 6 0) (get_or w 7 0) (get_or w 8 0) (omega arith))
 
-ran_length : (step : Stand → ℕ → ℕ → Stand) (s : Stand) (reads room : List ℕ) (i : ℕ) → length (ran step s reads room i) ≡ length room
-ran_length step s reads room zero = refl
-ran_length step s reads room (suc i) = stored_length (ran step s reads room i) (9 * i) (shown_words (shown_of (stand_after step s reads i))) ∙ ran_length step s reads room i
-
 ran_behind : (step : Stand → ℕ → ℕ → Stand) (s : Stand) (reads b c : List ℕ) (i : ℕ) → 9 * i ≤ length b → ran step s reads (b ++ c) i ≡ ran step s reads b i ++ c
 ran_behind step s reads b c zero h = refl
 ran_behind step s reads b c (suc i) h =
     let w = shown_words (shown_of (stand_after step s reads i)) in
     ap (λ z. stored_at z (9 * i) w) (ran_behind step s reads b c i (omega arith)) ∙ behind (ran step s reads b i) c (9 * i) w (rw (ran_length step s reads b i) (omega arith))
 
-pub walked : (x : Result Plan Refusal) (reads room : List ℕ) (n : ℕ) → last_read n ≤ length reads → length room ≡ 9 * n → {at : ℕ} {down : Bool} {after final : List ℕ}
+-- in a room for no more things than n
+walked_all : (x : Result Plan Refusal) (reads room : List ℕ) (n : ℕ) → last_read n ≤ length reads → length room ≤ 9 * n → {at : ℕ} {down : Bool} {after final : List ℕ}
     → record { at = at; down = down; room = after } ≡ show_all (take (last_read n) reads) (entries_of x) (showing 0 room)
     → final ≡ filled (n - at) at (shown_words (shown_of (end_of x down))) after → final ≡ ran stepped_of (fresh_of x) reads room n
-walked x reads room n enough all l f =
+walked_all x reads room n enough all l f =
     let s = show_all (take (last_read n) reads) (entries_of x) (showing 0 room) in
     let g = all_led x reads room n enough all in
     f ∙ ap (λ z. filled (n - z.at) z.at (shown_words (shown_of (end_of x z.down))) z.room) l
     ∙ fill_led (fresh_of x) reads room n enough all (end_of x s.down) (shown_words (shown_of (end_of x s.down))) refl (stays x s.down) (n - s.at) s.at s.room refl (record { going = g.going; full = g.full; same = g.same })
 
--- in a room that has more than that
-pub walked_in : (x : Result Plan Refusal) (reads room : List ℕ) (n : ℕ) → last_read n ≤ length reads → 9 * n ≤ length room → {at : ℕ} {down : Bool} {after final : List ℕ}
+-- what stands behind the first n things stays
+ran_part : (x : Result Plan Refusal) (reads room : List ℕ) (n : ℕ) → ran stepped_of (fresh_of x) reads (take (9 * n) room) n ++ drop (9 * n) room ≡ ran stepped_of (fresh_of x) reads room n
+ran_part x reads room n = go (leb (9 * n) (length room)) refl
+  where
+    go : (t : Bool) → leb (9 * n) (length room) ≡ t → ran stepped_of (fresh_of x) reads (take (9 * n) room) n ++ drop (9 * n) room ≡ ran stepped_of (fresh_of x) reads room n
+    go true e =
+        let h = leb-true (9 * n) (length room) e in
+        let k : length (take (9 * n) room) ≡ 9 * n = simp length-take (omega arith) in
+        sym (ran_behind stepped_of (fresh_of x) reads (take (9 * n) room) (drop (9 * n) room) n (omega arith))
+        ∙ ap (λ z. ran stepped_of (fresh_of x) reads z n) (take-append-drop (9 * n) room)
+    go false e =
+        let h = leb-false (9 * n) (length room) e in
+        let a : take (9 * n) room ≡ room = take_all (9 * n) room (omega arith) in
+        let d : drop (9 * n) room ≡ [] = drop_all (9 * n) room (omega arith) in
+        rw (a, d) (append-nil (ran stepped_of (fresh_of x) reads room n))
+
+-- in any room: what is shown in its first 9 n words is the walk over it
+pub walked : (x : Result Plan Refusal) (reads room : List ℕ) (n : ℕ) → last_read n ≤ length reads → {at : ℕ} {down : Bool} {after final : List ℕ}
     → record { at = at; down = down; room = after } ≡ show_all (take (last_read n) reads) (entries_of x) (showing 0 (take (9 * n) room))
     → final ≡ filled (n - at) at (shown_words (shown_of (end_of x down))) after → final ++ drop (9 * n) room ≡ ran stepped_of (fresh_of x) reads room n
-walked_in x reads room n enough h l f =
-    let k : length (take (9 * n) room) ≡ 9 * n = simp length-take (omega arith) in
-    ap (λ z. z ++ drop (9 * n) room) (walked x reads (take (9 * n) room) n enough k l f)
-    ∙ sym (ran_behind stepped_of (fresh_of x) reads (take (9 * n) room) (drop (9 * n) room) n (omega arith))
-    ∙ ap (λ z. ran stepped_of (fresh_of x) reads z n) (take-append-drop (9 * n) room)
-
--- ---- lengths
--- no more are shown than there is room for, nor than there are values for
-pub count_bounds : (reads room : ℕ) → (last_read (shown_count reads room) ≤ reads) × (9 * shown_count reads room ≤ room)
-count_bounds reads room = go (ltb (room / 9) (reads / 2 + 1)) refl
-  where
-    go : (t : Bool) → ltb (room / 9) (reads / 2 + 1) ≡ t → (last_read (cond t (room / 9) (reads / 2 + 1)) ≤ reads) × (9 * cond t (room / 9) (reads / 2 + 1) ≤ room)
-    go true e = let l = ltb-true (room / 9) (reads / 2 + 1) e in (omega arith, omega arith)
-    go false e = let l = ltb-false (room / 9) (reads / 2 + 1) e in (omega arith, omega arith)
+walked x reads room n enough l f =
+    let k : length (take (9 * n) room) ≤ 9 * n = simp length-take (omega arith) in
+    ap (λ z. z ++ drop (9 * n) room) (walked_all x reads (take (9 * n) room) n enough k l f) ∙ ran_part x reads room n

@@ -1,15 +1,15 @@
 // A plan's entries as words, nine for each: the list itself, and what a walk over it shows. docs/CODES.md, Entries as words.
 #![tactic(auto)]
 
-ghost use Rattle.std.specs.Prelude.{◌≡◌, [], ◌∷◌, ◌≤◌, ◌*◌, ◌-◌, length, Option};
+ghost use Rattle.std.specs.Prelude.{◌≡◌, ◌≤◌, ◌*◌, ◌-◌, length};
 ghost use Rattle.rules.specs.Document01.Entries.{entries_of};
 ghost use Rattle.rules.specs.Document01.Walk.{stepped_of, fresh_of, shown_of};
-ghost use Rattle.rules.specs.Words.{listed, shown_words, shown_count, ran};
+ghost use Rattle.rules.specs.Words.{listed, shown_count, ran};
 ghost use Rattle.listing.specs.Showing.{far};
 ghost use Rattle.listing.specs.Walked.{end_of, filled, last_read};
 
 use shows::Show;
-use types::{Plan, Refusal};
+use types::{Plan, Refusal, Shown};
 
 mod shows;
 
@@ -30,29 +30,24 @@ pub fn store_list(x: &Result<Plan, Refusal>, list: &mut [u32])
     list[0] = show.at as u32;
 }
 
-// The kind and the number that a walk shows at its end: by the answer, and whether the check has ended the list.
-fn last_words(x: &Result<Plan, Refusal>, down: bool) -> (u32, u32)
-    ensures { result.0 ∷ result.1 ∷ 0 ∷ 0 ∷ 0 ∷ 0 ∷ 0 ∷ 0 ∷ 0 ∷ [] ≡ shown_words (shown_of (end_of x.now down)) }
+// What a walk shows at its end: by the answer, and whether the check has ended the list.
+fn last_shown(x: &Result<Plan, Refusal>, down: bool) -> Shown
+    ensures { result ≡ shown_of (end_of x.now down) }
 {
     match x {
-        Ok(_) => {
-            if down {
-                return (5, refusal::number_of(Refusal::CsiDown));
-            }
-            (0, 0)
-        }
-        Err(r) => (5, refusal::number_of(*r)),
+        Err(r) => Shown::Stopped(*r),
+        Ok(_) if down => Shown::Stopped(Refusal::CsiDown),
+        Ok(_) => Shown::Finished,
     }
 }
 
 // The same thing shown from place i to the end.
 #[tactic(auto, using(crate::proofs::Walked::fills_on))]
-fn fill(kind: u32, number: u32, i: usize, n: usize, out: &mut [u32])
-    ensures { out.new ≡ filled (n - i) i (kind ∷ number ∷ 0 ∷ 0 ∷ 0 ∷ 0 ∷ 0 ∷ 0 ∷ 0 ∷ []) out.old }
+fn fill(words: &[u32; 9], i: usize, n: usize, out: &mut [u32])
+    ensures { out.new ≡ filled (n - i) i words.now out.old }
 {
-    let words = [kind, number, 0, 0, 0, 0, 0, 0, 0];
     for k in i..n {
-        shows::nine(&words, k, out);
+        shows::nine(words, k, out);
     }
 }
 
@@ -82,7 +77,7 @@ pub fn show_walk(x: &Result<Plan, Refusal>, reads: &[u32], shown: &mut [u32]) ->
         down: false,
     };
     entries::tell(x, &mut show, out);
-    let (kind, number) = last_words(x, show.down);
-    fill(kind, number, show.at, n, out);
+    let last = words::shown_words(last_shown(x, show.down));
+    fill(&last, show.at, n, out);
     n
 }

@@ -20,9 +20,7 @@ fn clocks(report: &[u32], bank: &[u32], hse: Option<u32>) {
 }
 
 fn pll(n: u32, x: &Option<PllSettings>, src: u32) {
-    let mut words: [u32; 18] = [0; 18];
-    pll_words::store_pll(x, &mut words);
-    let numbers = lines::pll_line(n, src, &words);
+    let numbers = lines::pll_line(n, src, &pll_words::all_words(x));
     if numbers[2] != 0 {
         print::line(
             b"pll{0}        {1#} / {2} = {3}, x {4}{5?} + {6}/8192{.}, VCO {7}, {8#}\n",

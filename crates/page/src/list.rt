@@ -14,8 +14,7 @@ fn entry(i: u32, e: Entry) {
     );
 }
 
-// In order, up to the last.
-// A sink that prints each entry, behind how many stand before it.
+// A sink that prints each entry in order, behind how many stand before it.
 #[derive(Clone, Copy)]
 pub struct Lines {
     pub before: u32,
@@ -43,14 +42,13 @@ fn all_words(bank: &[u32; 82]) {
     print::say(b"\n");
 }
 
-const HEX: [&str; 16] = [
-    "0", "1", "2", "3", "4", "5", "6", "7", "8", "9", "a", "b", "c", "d", "e", "f",
+const HEX: [&[u8]; 16] = [
+    b"0", b"1", b"2", b"3", b"4", b"5", b"6", b"7", b"8", b"9", b"a", b"b", b"c", b"d", b"e", b"f",
 ];
 
 // Thirty bytes a row, each row a word of a request.
 fn bytes(request: &[u8]) {
-    for i in 0..request.len() {
-        let numbers = lines::byte_line(request, i);
+    for numbers in (0..request.len()).map(|i| lines::byte_line(request, i)) {
         print::line(b"{0?}bytes={.}{1#}{2#}{3?}\n{.}", &HEX, &numbers);
     }
 }

@@ -14,7 +14,7 @@ pub fn show(sheet: [u8; 115]) {
     match &x {
         Ok(plan) => page::plan(plan, &bank),
         Err(n) => {
-            refused::show(sheet, refusal::number_of(*n));
+            refused::show(sheet, *n);
             help::page(refusal::number_of(*n));
         }
     }

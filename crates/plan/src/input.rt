@@ -6,12 +6,33 @@ use std::fs::File;
 use std::io::Read;
 use std::rt::{Env, Files};
 
-// Copies s to a place on, and a blank behind it, as far as there is room; the place behind that.
-fn append(words: &mut [u8], at: usize, s: &[u8]) -> usize {
-    text::store(words, at, s);
-    let end = at.saturating_add(s.len());
-    text::store(words, end, b" ");
-    end.saturating_add(1).min(words.len())
+// The words so far: `count` bytes of a room.
+#[derive(Drop)]
+pub struct Words {
+    pub room: [u8; 4096],
+    pub count: usize,
+}
+
+impl Words {
+    // Puts s behind the words so far, and a blank behind it, as far as there is room.
+    fn append(&mut self, s: &[u8]) {
+        text::store(&mut self.room, self.count, s);
+        let end = self.count.saturating_add(s.len());
+        text::store(&mut self.room, end, b" ");
+        self.count = end.saturating_add(1).min(self.room.len());
+    }
+
+    // An argument, or for @FILE what the file has; one that cannot be read stands as a wrong word.
+    fn append_argument(&mut self, rt: &impl Files, word: &[u8]) {
+        let mut room = io::buffer();
+        if let Some(path) = word.strip_prefix(b"@") {
+            if let Some(n) = read_file(rt, path, &mut room) {
+                self.append(&room[..n]);
+                return;
+            }
+        }
+        self.append(word);
+    }
 }
 
 // Reads until there is no more room, the file ends or a read fails; how many bytes were read. std's read_exact does not say how many.
@@ -38,29 +59,21 @@ fn read_file(rt: &impl Files, path: &[u8], room: &mut [u8]) -> Option<usize>
     Some(read_full(&mut file, room))
 }
 
-// An argument, or for @FILE what the file has; one that cannot be read stands as a wrong word.
-fn append_argument(rt: &impl Files, words: &mut [u8], at: usize, word: &[u8]) -> usize {
-    let mut room = io::buffer();
-    if let Some(path) = word.strip_prefix(b"@") {
-        if let Some(n) = read_file(rt, path, &mut room) {
-            return append(words, at, &room[..n]);
-        }
-    }
-    append(words, at, word)
-}
-
-// All arguments; how many bytes they take. One of more than 4096 bytes counts as an empty one.
-pub fn gather(rt: &(impl Env + Files), words: &mut [u8]) -> usize {
-    let mut at = 0;
+// All arguments. One of more than 4096 bytes counts as an empty one.
+pub fn gather(rt: &(impl Env + Files)) -> Words {
+    let mut words = Words {
+        room: io::buffer(),
+        count: 0,
+    };
     for i in 1..usize::MAX {
         let mut word = io::buffer();
         match rt.arg(i, &mut word) {
-            Ok(n) => at = append_argument(rt, words, at, &word[..n]),
-            Err(FillError::TooLong) => at = append(words, at, b""),
+            Ok(n) => words.append_argument(rt, &word[..n]),
+            Err(FillError::TooLong) => words.append(b""),
             Err(FillError::NotPresent) => break,
         }
     }
-    at
+    words
 }
 
 // The page of a refusal by its number, which a blank stands behind, or the words that there are.

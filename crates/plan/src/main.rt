@@ -6,10 +6,9 @@ mod input;
 mod refused;
 
 fn main(rt: HostRuntime) {
-    let mut words = io::buffer();
-    let n = input::gather(&rt, &mut words);
-    if n < 4096 {
-        run(&words[..n]);
+    let words = input::gather(&rt);
+    if words.count < 4096 {
+        run(&words.room[..words.count]);
         return;
     }
     print::say(b"plan: the words take more than 4095 bytes\n");

@@ -1,11 +1,11 @@
 -- Laws of one PLL from its outputs' span to M, each at the place where the code takes it.
 use Rattle.std.specs.Prelude.{Option, Some, None, Result, Err, unwrap_or, is_some}
-use mathlib.Core.Path.{◌≡◌, sym, ap, ◌∙◌, subst}
-use mathlib.Core.Bool.{Bool, true, ◌&&◌, ◌||◌}
+use mathlib.Core.Path.{◌≡◌, refl, sym, ap, ◌∙◌, subst}
+use mathlib.Core.Bool.{Bool, true, false, cond, ◌&&◌, ◌||◌}
 use Prim.Native.Nat.{ℕ, ◌*◌, ◌/◌, ◌≤◌, ◌<◌}
 use native.Mathlib.Omega.{arith}
 use native.Mathlib.Nat.{le_trans, mul-le-mul_left}
-use lib.Dec.{leb}
+use lib.Dec.{leb, ltb, eqb}
 use borrow.Author.Tests.{le-leb, lt-leb, lt-ltb}
 use Rattle.std.specs.Option.{option_or}
 use Rattle.types.specs.declared.Refusal.{Refusal}
@@ -16,7 +16,7 @@ use Rattle.rules.specs.Document01.Result.{◌>>=◌}
 use Rattle.rules.specs.Document01.Hertz.{not_zero}
 use Rattle.rules.specs.Document01.ChoiceOfM.{chosen_m, Admissible}
 use Rattle.rules.specs.Document01.Target.{target_of}
-use Rattle.rules.specs.Document01.OnePll.{counted_p, counted_outputs, least, largest, Range, range_of, divided_by, settled}
+use Rattle.rules.specs.Document01.OnePll.{counted_p, counted_outputs, least, largest, Range, medium, wide, range_of, divided_by, settled}
 use Rattle.laws.proofs.Tests.{and_left, and_right}
 use Rattle.laws.proofs.Numbers.{le_div}
 use Rattle.rules.proofs.Document01.ChoiceOfM.{chosen_some}
@@ -26,6 +26,7 @@ use Rattle.claims.proofs.Legal.OnePll.{Good, range_good, Divides, SomeDivider, d
 use Rattle.pll.specs.Answer.{after_span}
 use Rattle.pll.specs.Spans.{Spanned, range_for}
 use Rattle.pll.specs.Search.{low_of, high_of}
+use Rattle.pll.specs.declared.asked.Asked.{Asked}
 use Rattle.pll.specs.declared.vco.VcoRange.{VcoRange}
 use Rattle.pll.specs.Settle.{HasDivider, Settles, settled_for}
 
@@ -44,7 +45,16 @@ first_pos None (Some q) r i j k w = j
 first_pos None None (Some r) i j k w = k
 first_pos None None None i j k w = absurd (let z : ◌≡◌ {A = ℕ} 0 1 = cc in omega arith)
 
-module _ (odd : Bool) (source : ℕ) (a : PllRequest) (low most : ℕ) (sp : Spanned odd source a low most) where
+module _ (asked : Asked) (low most : ℕ) (sp : Spanned asked low most) where
+  abbrev odd : Bool
+  odd = asked.odd
+
+  abbrev source : ℕ
+  source = asked.source
+
+  abbrev a : PllRequest
+  a = asked.request
+
   abbrev g : Range
   g = range_of most
 
@@ -53,13 +63,13 @@ module _ (odd : Bool) (source : ℕ) (a : PllRequest) (low most : ℕ) (sp : Spa
 
   -- ---- what is known of the outputs
   pos_p : Pos a.p
-  pos_p = pos_is a.p (and_left (not_zero a.p) _ sp.none_zero_is)
+  pos_p = pos_is a.p (and_left (not_zero a.p) _ asked.none_zero)
 
   pos_q : Pos a.q
-  pos_q = pos_is a.q (and_left (not_zero a.q) _ (and_right (not_zero a.p) _ sp.none_zero_is))
+  pos_q = pos_is a.q (and_left (not_zero a.q) _ (and_right (not_zero a.p) _ asked.none_zero))
 
   pos_r : Pos a.r
-  pos_r = pos_is a.r (and_right (not_zero a.q) _ (and_right (not_zero a.p) _ sp.none_zero_is))
+  pos_r = pos_is a.r (and_right (not_zero a.q) _ (and_right (not_zero a.p) _ asked.none_zero))
 
   spans : Span odd a.p a.q a.r
   spans = span odd a.p a.q a.r pos_p pos_q pos_r sp.some
@@ -74,7 +84,7 @@ module _ (odd : Bool) (source : ℕ) (a : PllRequest) (low most : ℕ) (sp : Spa
   small = let t = target_le low most g.end in let e = good.to in omega arith
 
   searched : (1 ≤ source) × (target < 2_147_483_648)
-  searched = (sp.source_above, small)
+  searched = (asked.source_above, small)
 
   -- the rules speak of the same range and target
   abbrev after : ℕ → ℕ → Result PllSettings Refusal
@@ -106,10 +116,7 @@ module _ (odd : Bool) (source : ℕ) (a : PllRequest) (low most : ℕ) (sp : Spa
     admits : Admissible source g.low g.high m
     admits = (chosen_some source target g.low g.high m is).admissible
 
-    pub above : 1 ≤ m
-    above = admits.above
-
-    settles : Settles a target (source / m)
+    settles : Settles asked target m
     settles =
         let t1 : 128_000_000 ≤ target = le_trans good.from from in
         let b = ends in
@@ -117,6 +124,7 @@ module _ (odd : Bool) (source : ℕ) (a : PllRequest) (low most : ℕ) (sp : Spa
         let in_q = subst (λ (x : ℕ). Inside (λ h. h) x most a.q) (sym sp.low_is) (subst (λ (y : ℕ). Inside (λ h. h) (least (counted_outputs odd a)) y a.q) (sym sp.most_is) spans.in_q) in
         let in_r = subst (λ (x : ℕ). Inside (λ h. h) x most a.r) (sym sp.low_is) (subst (λ (y : ℕ). Inside (λ h. h) (least (counted_outputs odd a)) y a.r) (sym sp.most_is) spans.in_r) in
         record {
+          above = admits.above;
           some = le_div admits.above (let l : m * 1 ≤ m * g.low = mul-le-mul_left m good.lows in le_trans (omega arith) (le_trans l admits.from_low));
           small = small;
           first = first_pos a.p a.q a.r pos_p pos_q pos_r sp.some;
@@ -125,9 +133,14 @@ module _ (odd : Bool) (source : ℕ) (a : PllRequest) (low most : ℕ) (sp : Spa
           has_r = with_both target a.r pos_r (divider_q low most g b.0 b.1 good sp.near t1 a.r in_r pos_r);
         }
 
-    pub rest : settled_for odd a g.vcosel target m (source / m) ≡ after_span odd source a
+    pub rest : settled_for asked g.vcosel target m ≡ after_span odd source a
     unfolding divided_by settled_for settled
     rest = rw (same, within from, is)
+
+  -- VCOSEL is 1 in the medium range alone
+  by_vcosel : (t : Bool) → cond (eqb (cond t medium wide).vcosel 1) medium wide ≡ cond t medium wide
+  by_vcosel true = refl
+  by_vcosel false = refl
 
   -- ---- the same of the range and the target as they are computed
   module _ (v : VcoRange) (t : ℕ) (ranged : v ≡ range_for most) (aimed : t ≡ target_of low most v.end) where
@@ -137,10 +150,14 @@ module _ (odd : Bool) (source : ℕ) (a : PllRequest) (low most : ℕ) (sp : Spa
     pub searched_at : (1 ≤ source) × (t < 2_147_483_648)
     searched_at = rw target_is searched
 
-    pub settles_at : v.start ≤ t → (m : ℕ) → chosen_m source t (low_of v.medium) (high_of v.medium) ≡ Some m → Settles a t (source / m)
+    pub settles_at : v.start ≤ t → (m : ℕ) → chosen_m source t (low_of (eqb v.vcosel 1)) (high_of (eqb v.vcosel 1)) ≡ Some m → Settles asked t m
     settles_at l m e =
         let start : v.start ≡ g.start = ap (λ (x : VcoRange). x.start) ranged in
-        let same : chosen ≡ chosen_m source t (low_of v.medium) (high_of v.medium) =
-        sym (ap (λ (x : VcoRange). chosen_m source t (low_of x.medium) (high_of x.medium)) ranged ∙ ap (λ (x : ℕ). chosen_m source x g.low g.high) target_is) in
+        let same : chosen ≡ chosen_m source t (low_of (eqb v.vcosel 1)) (high_of (eqb v.vcosel 1)) =
+        sym (
+        ap (λ (x : VcoRange). chosen_m source t (low_of (eqb x.vcosel 1)) (high_of (eqb x.vcosel 1))) ranged
+        ∙ ap (λ (x : Range). chosen_m source t x.low x.high) (by_vcosel (ltb most 420_000_000))
+        ∙ ap (λ (x : ℕ). chosen_m source x g.low g.high) target_is
+        ) in
         let p = target_is in
         rw target_is (settles (omega arith) m (same ∙ e))

@@ -1,7 +1,8 @@
 -- For the private functions: the outputs of a PLL one after the other, and a VCO range.
-use Rattle.std.specs.Prelude.{◌≡◌, Bool, true, cond, ℕ, ◌/◌, ◌≤◌, ◌<◌, min, max, ltb, Option, Some, None}
+use Rattle.std.specs.Prelude.{◌≡◌, Bool, true, cond, ℕ, ◌/◌, ◌≤◌, ◌<◌, min, max, Option, Some, None}
 use Rattle.types.specs.declared.PllRequest.{PllRequest}
-use Rattle.rules.specs.Document01.OnePll.{none_zero, wanted, counted_outputs, least, largest, range_of}
+use Rattle.rules.specs.Document01.OnePll.{wanted, counted_outputs, least, largest, range_of}
+use Rattle.pll.specs.declared.asked.Asked.{Asked}
 use Rattle.pll.specs.declared.outputs.Span.{Span}
 use Rattle.pll.specs.declared.vco.VcoRange.{VcoRange}
 
@@ -19,16 +20,14 @@ abbrev pub with_output : Option Span → Option ℕ → Option Span
 with_output s None = s
 with_output s (Some h) = Some (with_hertz s h)
 
--- step 4 and refusals 7, 8 and 9: an output is requested, the outputs span from low to most, and none of the three fits
-pub record Spanned (odd : Bool) (source : ℕ) (a : PllRequest) (low most : ℕ) : Type 0 where
-  pub source_above : 1 ≤ source
-  pub some : wanted a ≡ true
-  pub none_zero_is : none_zero a ≡ true
-  pub low_is : low ≡ least (counted_outputs odd a)
-  pub most_is : most ≡ largest (counted_outputs odd a)
+-- step 4 and refusals 8 and 9: an output is requested, the outputs span from low to most, and neither refusal fits
+pub record Spanned (asked : Asked) (low most : ℕ) : Type 0 where
+  pub some : wanted asked.request ≡ true
+  pub low_is : low ≡ least (counted_outputs asked.odd asked.request)
+  pub most_is : most ≡ largest (counted_outputs asked.odd asked.request)
   pub near : most / 128 ≤ low
   pub below : most < 560_000_000
 
 -- One PLL, first point: the range for outputs up to most, as the code has it
 abbrev pub range_for : (most : ℕ) → VcoRange
-range_for most = record { medium = ltb most 420_000_000; vcosel = (range_of most).vcosel; start = (range_of most).start; end = (range_of most).end }
+range_for most = record { vcosel = (range_of most).vcosel; start = (range_of most).start; end = (range_of most).end }

@@ -1,13 +1,15 @@
 // One PLL, from its request to its settings or a refusal: pll.rs.
 #![tactic(auto)]
 
-ghost use Rattle.std.specs.Prelude.{◌≡◌, true, ◌≤◌};
-ghost use Rattle.rules.specs.Document01.OnePll.{none_zero, pll_of};
+ghost use Rattle.std.specs.Prelude.{◌≡◌};
+ghost use Rattle.rules.specs.Document01.OnePll.{pll_of};
 ghost use Rattle.pll.specs.Answer.{one_pll_of, after_span};
 ghost use Rattle.pll.specs.Spans.{Spanned};
 
+use asked::Asked;
 use types::{PllRequest, PllSettings, Refusal};
 
+mod asked;
 mod choice;
 mod outputs;
 mod settle;
@@ -24,45 +26,45 @@ pub fn plan_pll(odd: bool, source: u32, request: PllRequest) -> Result<Option<Pl
     if !outputs::none_zero(request) {
         return Err(Refusal::OutputZero);
     }
-    run_pll(odd, source, request)
+    Asked {
+        odd,
+        source,
+        request,
+    }
+    .run()
 }
 
-// Idle, or refusals 8 and 9.
-#[tactic(auto, unfolding(crate::specs::Answer::after_span, crate::specs::Spans::span_of, rules::specs::Document01::OnePll::pll_of, rules::specs::Document01::OnePll::runs, rules::specs::Document01::OnePll::spanned))]
-fn run_pll(odd: bool, source: u32, request: PllRequest) -> Result<Option<PllSettings>, Refusal>
-    requires { (1 ≤ source) × (none_zero request ≡ true) }
-    ensures { result ≡ pll_of odd source request }
-{
-    let Some(s) = outputs::span_of(odd, request) else {
-        return Ok(None);
-    };
-    if s.least < s.most / 128 {
-        return Err(Refusal::OutputsTooFarApart);
+impl Asked {
+    // Idle, or refusals 8 and 9.
+    #[tactic(auto, unfolding(crate::specs::Answer::after_span, crate::specs::Spans::span_of, rules::specs::Document01::OnePll::pll_of, rules::specs::Document01::OnePll::runs, rules::specs::Document01::OnePll::spanned))]
+    fn run(self) -> Result<Option<PllSettings>, Refusal>
+        ensures { result ≡ pll_of self.odd self.source self.request }
+    {
+        let Some(s) = self.span() else {
+            return Ok(None);
+        };
+        if s.least < s.most / 128 {
+            return Err(Refusal::OutputsTooFarApart);
+        }
+        if 560_000_000 <= s.most {
+            return Err(Refusal::OutputTooHigh);
+        }
+        let settings = self.divide(s.least as u32, s.most as u32)?;
+        Ok(Some(settings))
     }
-    if 560_000_000 <= s.most {
-        return Err(Refusal::OutputTooHigh);
-    }
-    let settings = divide(odd, source, request, s.least as u32, s.most as u32)?;
-    Ok(Some(settings))
-}
 
-// Refusals 10 and 11: the VCO's range and target, and M.
-#[tactic(auto, using(crate::proofs::Divided::searched_at, crate::proofs::Divided::outside, crate::proofs::Divided::no_m, crate::proofs::Divided::above, crate::proofs::Divided::settles_at, crate::proofs::Divided::rest))]
-fn divide(
-    odd: bool,
-    source: u32,
-    request: PllRequest,
-    least: u32,
-    most: u32,
-) -> Result<PllSettings, Refusal>
-    requires { Spanned odd source request least most }
-    ensures { result ≡ after_span odd source request }
-{
-    let g = vco::range_of(most);
-    let target = vco::target_of(least, most, g.end);
-    if target < g.start {
-        return Err(Refusal::TargetOutside);
+    // Refusals 10 and 11: the VCO's range and target, and M.
+    #[tactic(auto, using(crate::proofs::Divided::searched_at, crate::proofs::Divided::outside, crate::proofs::Divided::no_m, crate::proofs::Divided::settles_at, crate::proofs::Divided::rest))]
+    fn divide(self, least: u32, most: u32) -> Result<PllSettings, Refusal>
+        requires { Spanned self least most }
+        ensures { result ≡ after_span self.odd self.source self.request }
+    {
+        let g = vco::range_of(most);
+        let target = vco::target_of(least, most, g.end);
+        if target < g.start {
+            return Err(Refusal::TargetOutside);
+        }
+        let m = choice::search_m(self.source, target, g.vcosel == 1).ok_or(Refusal::NoM)?;
+        self.settle(g.vcosel, target, m)
     }
-    let m = choice::search_m(source, target, g.medium).ok_or(Refusal::NoM)?;
-    settle::settle(odd, request, g.vcosel, target, m, source / m)
 }

@@ -3,6 +3,7 @@ ghost use Rattle.std.specs.Prelude.{◌≡◌};
 ghost use Rattle.rules.specs.Document01.OnePll as Rules;
 ghost use Rattle.pll.specs.Spans.{span_of, with_hertz, with_output};
 
+use crate::asked::Asked;
 use types::PllRequest;
 
 // Whether no output is requested at 0 Hz.
@@ -52,13 +53,15 @@ fn with_output(s: Option<Span>, h: Option<u64>) -> Option<Span>
     }
 }
 
-// The least and the largest of P, Q, R, where one is requested.
-#[tactic(auto, unfolding(crate::specs::Spans::span_of))]
-pub fn span_of(odd: bool, a: PllRequest) -> Option<Span>
-    ensures { result ≡ span_of odd a }
-{
-    let p = a.p.map(|f| counted(odd, f));
-    let q = a.q.map(|f| f as u64);
-    let r = a.r.map(|f| f as u64);
-    with_output(with_output(with_output(None, p), q), r)
+impl Asked {
+    // The least and the largest of P, Q, R, where one is requested.
+    #[tactic(auto, unfolding(crate::specs::Spans::span_of))]
+    pub fn span(self) -> Option<Span>
+        ensures { result ≡ span_of self.odd self.request }
+    {
+        let p = self.request.p.map(|f| counted(self.odd, f));
+        let q = self.request.q.map(|f| f as u64);
+        let r = self.request.r.map(|f| f as u64);
+        with_output(with_output(with_output(None, p), q), r)
+    }
 }

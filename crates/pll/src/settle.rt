@@ -3,40 +3,8 @@ ghost use Rattle.std.specs.Prelude.{◌≡◌, ◌*◌, ◌/◌, ◌<◌, ◌≤
 ghost use Rattle.rules.specs.Document01.OnePll as Rules;
 ghost use Rattle.pll.specs.Settle.{HasDivider, Settles, multiplied, settled_for, Placed, placed, divider_in};
 
+use crate::asked::Asked;
 use types::{PllOutput, PllRequest, PllSettings, Refusal, Strategy};
-
-// Refusals 12 and 13: N, FRACN and the VCO.
-#[tactic(auto, using(crate::proofs::Settled::fracn_in), unfolding(crate::specs::Settle::settled_for, rules::specs::Document01::OnePll::settled))]
-pub fn settle(
-    odd: bool,
-    request: PllRequest,
-    vcosel: u32,
-    target: u32,
-    m: u32,
-    reference: u32,
-) -> Result<PllSettings, Refusal>
-    requires { Settles request target reference }
-    ensures { result ≡ settled_for odd request vcosel target m reference }
-{
-    let n = target / reference;
-    if n < 4 {
-        return Err(Refusal::NOutside);
-    }
-    if 512 < n {
-        return Err(Refusal::NOutside);
-    }
-    let by = multiply(request.strategy, reference, n, target, first_of(request))?;
-    let c = Chosen {
-        vcosel,
-        target,
-        m,
-        reference,
-        n,
-        fraction: by.fraction,
-        vco: by.vco,
-    };
-    place(odd, request, c)
-}
 
 // The numbers chosen for a PLL.
 #[derive(Clone, Copy)]
@@ -95,35 +63,64 @@ fn multiply(
 // The largest divider of P.
 const P_MOST: u32 = 128;
 
-// Refusals 14 and 15, and the settings.
-#[tactic(auto, unfolding(crate::specs::Settle::placed))]
-fn place(odd: bool, request: PllRequest, c: Chosen) -> Result<PllSettings, Refusal>
-    requires { Placed request c }
-    ensures { result ≡ placed odd request c }
-{
-    let first = output_of(c.target, c.vco, request.p);
-    let d = divider_p(first);
-    if P_MOST < d {
-        return Err(Refusal::PDividerAbove128);
-    }
-    if !odd {
-        if d % 2 == 1 {
-            return Err(Refusal::PDividerOdd);
+impl Asked {
+    // Refusals 12 and 13: N, FRACN and the VCO.
+    #[tactic(auto, using(crate::proofs::Settled::fracn_in), unfolding(crate::specs::Settle::settled_for, rules::specs::Document01::OnePll::settled))]
+    pub fn settle(self, vcosel: u32, target: u32, m: u32) -> Result<PllSettings, Refusal>
+        requires { Settles self target m }
+        ensures { result ≡ settled_for self vcosel target m }
+    {
+        let reference = self.source / m;
+        let n = target / reference;
+        if n < 4 {
+            return Err(Refusal::NOutside);
         }
+        if 512 < n {
+            return Err(Refusal::NOutside);
+        }
+        let a = self.request;
+        let by = multiply(a.strategy, reference, n, target, first_of(a))?;
+        self.place(Chosen {
+            vcosel,
+            target,
+            m,
+            reference,
+            n,
+            fraction: by.fraction,
+            vco: by.vco,
+        })
     }
-    Ok(PllSettings {
-        vcosel: c.vcosel,
-        target: c.target,
-        m: c.m,
-        reference: c.reference,
-        rge: rge_of(c.reference),
-        n: c.n,
-        fraction: c.fraction,
-        vco: c.vco,
-        p: first,
-        q: output_of(c.target, c.vco, request.q),
-        r: output_of(c.target, c.vco, request.r),
-    })
+
+    // Refusals 14 and 15, and the settings.
+    #[tactic(auto, unfolding(crate::specs::Settle::placed))]
+    fn place(self, c: Chosen) -> Result<PllSettings, Refusal>
+        requires { Placed self c }
+        ensures { result ≡ placed self c }
+    {
+        let first = output_of(c.target, c.vco, self.request.p);
+        let d = divider_p(first);
+        if P_MOST < d {
+            return Err(Refusal::PDividerAbove128);
+        }
+        if !self.odd {
+            if d % 2 == 1 {
+                return Err(Refusal::PDividerOdd);
+            }
+        }
+        Ok(PllSettings {
+            vcosel: c.vcosel,
+            target: c.target,
+            m: c.m,
+            reference: c.reference,
+            rge: rge_of(c.reference),
+            n: c.n,
+            fraction: c.fraction,
+            vco: c.vco,
+            p: first,
+            q: output_of(c.target, c.vco, self.request.q),
+            r: output_of(c.target, c.vco, self.request.r),
+        })
+    }
 }
 
 // P's divider; an unset P has none, and 2 stands for it.

@@ -3,10 +3,9 @@ ghost use Rattle.std.specs.Prelude.{◌≡◌, ◌≤◌};
 ghost use Rattle.rules.specs.Document01.Target.{target_of};
 ghost use Rattle.pll.specs.Spans.{range_for};
 
-// Whether it is the medium range, VCOSEL, and the ends of its outputs.
+// VCOSEL, 1 for the medium range, and the ends of its outputs.
 #[derive(Clone, Copy)]
 pub struct VcoRange {
-    pub medium: bool,
     pub vcosel: u32,
     pub start: u32,
     pub end: u32,
@@ -18,14 +17,12 @@ pub fn range_of(most: u32) -> VcoRange
 {
     if most < 420_000_000 {
         return VcoRange {
-            medium: true,
             vcosel: 1,
             start: 150_000_000,
             end: 420_000_000,
         };
     }
     VcoRange {
-        medium: false,
         vcosel: 0,
         start: 128_000_000,
         end: 560_000_000,

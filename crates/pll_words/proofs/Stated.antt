@@ -1,11 +1,11 @@
 -- A PLL as words, in the order of docs/CODES.md: each of the eighteen has a number of its own here.
 use Rattle.std.specs.Prelude.{ℕ, Option, Some, None}
 use mathlib.Core.Path.{◌≡◌, refl}
-use mathlib.Core.List.{[], ◌∷◌}
+use mathlib.Core.List.{[], ◌∷◌, ◌++◌}
 use lib.ListN.{replicate}
 use Rattle.types.specs.declared.PllSettings.{PllSettings}
 use Rattle.rules.specs.Words.{stored_at}
-use Rattle.pll_words.specs.PllWords.{pll_stored}
+use Rattle.pll_words.specs.PllWords.{setting_words, outputs_words, pll_stored}
 
 abbrev settings : Option ℕ → PllSettings
 settings f = record { vcosel = 11; target = 12; m = 13; reference = 14; rge = 15; n = 16; fraction = f; vco = 19; p = Some (record { divider = 21; clock = 22 }); q = None; r = Some (record { divider = 27; clock = 28 }) }
@@ -26,3 +26,9 @@ whole_words = refl
 pub idle_words : pll_stored None (replicate 18 70) ≡ replicate 18 0
 unfolding stored_at
 idle_words = refl
+
+-- in a room of eighteen words: the settings, and behind them the outputs
+pub one_behind_the_other : (x : Option PllSettings) → pll_stored x (replicate 18 0) ≡ setting_words x ++ outputs_words x
+unfolding stored_at
+one_behind_the_other None = refl
+one_behind_the_other (Some s) = refl

@@ -1,7 +1,7 @@
 // The settings of one PLL as words, and storing them: docs/CODES.md, A PLL as words.
 #![tactic(auto)]
 
-ghost use Rattle.std.specs.Prelude.{◌≡◌};
+ghost use Rattle.std.specs.Prelude.{◌≡◌, ◌++◌};
 ghost use Rattle.pll_words.specs.PllWords.{setting_words, on_of, divider_of, hertz_of, outputs_words, pll_stored};
 
 use types::{PllOutput, PllSettings};
@@ -76,4 +76,14 @@ pub fn store_pll(x: &Option<PllSettings>, out: &mut [u32])
 {
     words::store_words(out, 0, &setting_words(x));
     words::store_words(out, 9, &outputs_words(x))
+}
+
+// The same eighteen words by themselves.
+#[tactic(auto, using(crate::proofs::Stated::one_behind_the_other))]
+pub fn all_words(x: &Option<PllSettings>) -> [u32; 18]
+    ensures { result ≡ setting_words x.now ++ outputs_words x.now }
+{
+    let mut words = [0; 18];
+    store_pll(x, &mut words);
+    words
 }

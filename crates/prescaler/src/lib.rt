@@ -1,10 +1,11 @@
 // The prescalers: rcc.rs, HPRE, PPRE and the timers; mco.rs, calculate_prescaler.
 #![tactic(auto)]
 
-ghost use Rattle.std.specs.Prelude.{◌≡◌, cond, leb, ◌≤◌, unwrap_or};
+ghost use Rattle.std.specs.Prelude.{◌≡◌, ℕ, cond, leb, ◌≤◌, unwrap_or};
 ghost use Rattle.rules.specs.Document01.Hertz.{ratio_of};
 ghost use Rattle.rules.specs.Document01.Buses.{hpre_of, ppre_of, ahb_of, apb_of, timer_of};
 ghost use Rattle.rules.specs.Document01.Mco.{mco_of};
+ghost use Rattle.prescaler.specs.Bus.{BusBy};
 
 use types::{Bus, Mco, Refusal};
 
@@ -60,33 +61,40 @@ fn hpre_of(ratio: u32) -> u32
     row(ratio, 1, 1, above_1)
 }
 
+// A bus from the clock that it divides, by a table of divisors, with refusal 18.
+fn bus<F: Fn(u32) -> u32>(clock: u32, requested: Option<u32>, divisor: F) -> Result<Bus, Refusal>
+    requires callable { F.IsAlwaysCallable divisor }
+    requires above { (ratio n : ℕ) → F.post divisor ratio n → 1 ≤ n }
+    ensures { BusBy (F.post divisor) clock requested result }
+{
+    if !hertz::not_zero(requested) {
+        return Err(Refusal::BusZero);
+    }
+    let pre = divisor(bus_ratio(clock, requested));
+    Ok(Bus {
+        pre,
+        clock: clock / pre,
+    })
+}
+
 // AHB from the system clock, with refusals 18 and 19.
-#[tactic(auto, unfolding(rules::specs::Document01::Buses::ahb_of))]
+#[tactic(auto, using(crate::proofs::Up::hpre_above), unfolding(rules::specs::Document01::Buses::ahb_of))]
 pub fn ahb(system: u32, requested: Option<u32>) -> Result<Bus, Refusal>
     ensures { result ≡ ahb_of system requested }
 {
-    if !hertz::not_zero(requested) {
-        return Err(Refusal::BusZero);
-    }
-    let pre = hpre_of(bus_ratio(system, requested));
-    let hclk = system / pre;
-    if hclk == 0 {
+    let b = bus(system, requested, hpre_of)?;
+    if b.clock == 0 {
         return Err(Refusal::AhbZero);
     }
-    Ok(Bus { pre, clock: hclk })
+    Ok(b)
 }
 
 // An APB from the AHB clock, with refusal 18.
-#[tactic(auto, unfolding(rules::specs::Document01::Buses::apb_of))]
+#[tactic(auto, using(crate::proofs::Up::ppre_above), unfolding(rules::specs::Document01::Buses::apb_of))]
 pub fn apb(hclk: u32, requested: Option<u32>) -> Result<Bus, Refusal>
     ensures { result ≡ apb_of hclk requested }
 {
-    if !hertz::not_zero(requested) {
-        return Err(Refusal::BusZero);
-    }
-    let pre = ppre_of(bus_ratio(hclk, requested));
-    let pclk = hclk / pre;
-    Ok(Bus { pre, clock: pclk })
+    bus(hclk, requested, ppre_of)
 }
 
 // The clock of the timers on an APB, by the APB's divisor.

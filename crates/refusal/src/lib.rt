@@ -12,36 +12,11 @@ pub fn number_of(n: Refusal) -> u32
     listed_number(n)
 }
 
-// The number under which the list has the refusal: written out, and not by its place among the variants, as the list is by numbers.
+// The number under which the list has the refusal.
 fn listed_number(n: Refusal) -> u32
     ensures { refusal_of result ≡ Some n }
 {
-    match n {
-        Refusal::OutsideCodes => 1,
-        Refusal::BankLength => 2,
-        Refusal::AboveLimit => 3,
-        Refusal::McoHseUnstated => 4,
-        Refusal::Pll1PUnlikeSystem => 5,
-        Refusal::SourceZero => 6,
-        Refusal::OutputZero => 7,
-        Refusal::OutputsTooFarApart => 8,
-        Refusal::OutputTooHigh => 9,
-        Refusal::TargetOutside => 10,
-        Refusal::NoM => 11,
-        Refusal::NOutside => 12,
-        Refusal::FracnOutside => 13,
-        Refusal::PDividerAbove128 => 14,
-        Refusal::PDividerOdd => 15,
-        Refusal::HsiOff => 16,
-        Refusal::HsidivNot2 => 17,
-        Refusal::BusZero => 18,
-        Refusal::AhbZero => 19,
-        Refusal::Mco1Lse => 20,
-        Refusal::McoNoOutput => 21,
-        Refusal::McoZero => 22,
-        Refusal::McoRatio => 23,
-        Refusal::CsiDown => 24,
-    }
+    n as u32
 }
 
 // 0 for what is answered, or the refusal's number.

@@ -6,8 +6,12 @@ ghost use Rattle.rules.specs.Document01.Bytes.{size_of};
 ghost use Rattle.rules.specs.Document01.Plan.{request_of};
 ghost use Rattle.request.specs.Request.{part_of};
 
+use bytes::Bytes;
+use form::Form;
 use types::{Asked, Chip, PllRequest, Refusal};
 
+mod bytes;
+mod form;
 mod formed;
 mod numbers;
 mod parts;
@@ -28,10 +32,14 @@ pub fn read_request(bytes: &[u8], chip: Chip) -> Result<Asked, Refusal>
     if bytes.len() != size_of(chip.three) {
         return Err(Refusal::OutsideCodes);
     }
-    if !formed::formed(bytes, chip.three) {
+    let form = Form {
+        bytes,
+        three: chip.three,
+    };
+    if !formed::formed(&form) {
         return Err(Refusal::OutsideCodes);
     }
-    let request = parts::decode(bytes, chip.three)?;
+    let request = parts::decode(&form)?;
     Ok(Asked { request, chip })
 }
 
@@ -46,8 +54,9 @@ pub fn read_part(bytes: &[u8]) -> Result<PllRequest, Refusal>
     if bytes.len() != PART {
         return Err(Refusal::OutsideCodes);
     }
-    if !formed::part_formed(bytes, 0) {
+    let part = Bytes { of: bytes, at: 0 };
+    if !formed::part_formed(part) {
         return Err(Refusal::OutsideCodes);
     }
-    parts::part_at(bytes, 0)
+    parts::part(part)
 }

@@ -1,107 +1,93 @@
 // What the bytes stand for, by places: a code that is none is refused where it is read.
-ghost use Rattle.std.specs.Prelude.{◌≡◌, ◌+◌, ◌*◌, ◌<◌, ◌≤◌, length};
-ghost use Rattle.rules.specs.Document01.Bytes.{no_part, size_of};
+ghost use Rattle.std.specs.Prelude.{◌≡◌};
 ghost use Rattle.request.specs.Parts.{u32le_at, hertz_at, part_coded, third_coded, plls_at, strategies_ok, request_with, codes_ok, decoded, only};
 
+use crate::bytes::Bytes;
+use crate::form::Form;
 use types::{Mco1Source, Mco2Source, PllRequest, Refusal, Request, Strategy};
 
 // Four bytes, little-endian.
 #[tactic(auto, unfolding(crate::specs::Parts::u32le_at))]
-pub fn u32le_at(b: &[u8], at: usize) -> u32
-    requires { at + 4 ≤ length b.now }
-    ensures { result ≡ u32le_at b.now at }
+pub fn u32le(b: Bytes<4>) -> u32
+    ensures { result ≡ u32le_at b.entry.of.now b.entry.at }
 {
-    u32::from_le_bytes([b[at], b[at + 1], b[at + 2], b[at + 3]])
+    u32::from_le_bytes([b.of[b.at], b.of[b.at + 1], b.of[b.at + 2], b.of[b.at + 3]])
 }
 
 #[tactic(auto, unfolding(crate::specs::Parts::hertz_at))]
-fn hertz_at(b: &[u8], at: usize) -> Option<u32>
-    requires { at + 5 ≤ length b.now }
-    ensures { result ≡ hertz_at b.now at }
+fn hertz(b: Bytes<5>) -> Option<u32>
+    ensures { result ≡ hertz_at b.entry.of.now b.entry.at }
 {
-    let number = u32le_at(b, at + 1);
-    if b[at] == 0 { None } else { Some(number) }
+    let number = u32le(b.part(1));
+    if b.of[b.at] == 0 { None } else { Some(number) }
 }
 
 // A PLL's part.
 #[tactic(auto, using(types::proofs::Coded::coded_is))]
-pub fn part_at(b: &[u8], at: usize) -> Result<PllRequest, Refusal>
-    requires { at + 16 ≤ length b.now }
-    ensures { result ≡ part_coded b.now at }
+pub fn part(b: Bytes<16>) -> Result<PllRequest, Refusal>
+    ensures { result ≡ part_coded b.entry.of.now b.entry.at }
 {
     Ok(PllRequest {
-        strategy: Strategy::try_from(b[at])?,
-        p: hertz_at(b, at + 1),
-        q: hertz_at(b, at + 6),
-        r: hertz_at(b, at + 11),
+        strategy: Strategy::try_from(b.of[b.at])?,
+        p: hertz(b.part(1)),
+        q: hertz(b.part(6)),
+        r: hertz(b.part(11)),
     })
 }
 
-// No PLL3 part.
-fn no_part() -> PllRequest
-    ensures { result ≡ no_part }
+// The PLL3 part, where there is one.
+fn third(f: &Form) -> Result<PllRequest, Refusal>
+    ensures { result ≡ third_coded f.now.three f.now.bytes.now }
 {
-    PllRequest {
-        strategy: Strategy::Integer,
-        p: None,
-        q: None,
-        r: None,
+    if f.three {
+        part(f.from(90))
+    } else {
+        Ok(PllRequest::default())
     }
 }
 
-// The PLL3 part, where there is one.
-fn third_at(b: &[u8], three: bool) -> Result<PllRequest, Refusal>
-    requires { size_of three ≤ length b.now }
-    ensures { result ≡ third_coded three b.now }
+fn plls(f: &Form) -> Result<[PllRequest; 3], Refusal>
+    ensures { result ≡ only (strategies_ok f.now.three f.now.bytes.now) (plls_at f.now.three f.now.bytes.now) }
 {
-    if three { part_at(b, 90) } else { Ok(no_part()) }
-}
-
-fn plls_at(b: &[u8], three: bool) -> Result<[PllRequest; 3], Refusal>
-    requires { (90 ≤ length b.now) × (size_of three ≤ length b.now) }
-    ensures { result ≡ only (strategies_ok three b.now) (plls_at three b.now) }
-{
-    Ok([part_at(b, 58)?, part_at(b, 74)?, third_at(b, three)?])
+    Ok([part(f.from(58))?, part(f.from(74))?, third(f)?])
 }
 
 // A request by its sources and PLLs: what else it has is read from its bytes.
 #[tactic(auto, unfolding(crate::specs::Parts::request_with))]
 fn request_with(
-    b: &[u8],
+    f: &Form,
     mco1source: Mco1Source,
     mco2source: Mco2Source,
     plls: [PllRequest; 3],
 ) -> Request
-    requires { 90 ≤ length b.now }
-    ensures { result ≡ request_with b.now mco1source mco2source plls }
+    ensures { result ≡ request_with f.now.bytes.now mco1source mco2source plls }
 {
     Request {
-        hse: hertz_at(b, 0),
-        lse: hertz_at(b, 5),
-        audio: hertz_at(b, 10),
-        system: hertz_at(b, 15),
-        peripheral: hertz_at(b, 20),
-        ahb: hertz_at(b, 25),
-        apb1: hertz_at(b, 30),
-        apb2: hertz_at(b, 35),
-        apb3: hertz_at(b, 40),
-        bypass: b[45] == 1,
+        hse: hertz(f.from(0)),
+        lse: hertz(f.from(5)),
+        audio: hertz(f.from(10)),
+        system: hertz(f.from(15)),
+        peripheral: hertz(f.from(20)),
+        ahb: hertz(f.from(25)),
+        apb1: hertz(f.from(30)),
+        apb2: hertz(f.from(35)),
+        apb3: hertz(f.from(40)),
+        bypass: f.bytes[45] == 1,
         mco1source,
-        mco1: hertz_at(b, 47),
+        mco1: hertz(f.from(47)),
         mco2source,
-        mco2: hertz_at(b, 53),
+        mco2: hertz(f.from(53)),
         plls,
     }
 }
 
 // The whole request, or refusal 1 for a code that is none.
 #[tactic(auto, using(types::proofs::Coded::coded_is, crate::proofs::Decoding::decodes), unfolding(crate::specs::Parts::codes_ok))]
-pub fn decode(b: &[u8], three: bool) -> Result<Request, Refusal>
-    requires { (90 ≤ length b.now) × (size_of three ≤ length b.now) }
-    ensures { result ≡ only (codes_ok three b.now) (decoded three b.now) }
+pub fn decode(f: &Form) -> Result<Request, Refusal>
+    ensures { result ≡ only (codes_ok f.now.three f.now.bytes.now) (decoded f.now.three f.now.bytes.now) }
 {
-    let mco1source = Mco1Source::try_from(b[46])?;
-    let mco2source = Mco2Source::try_from(b[52])?;
-    let plls = plls_at(b, three)?;
-    Ok(request_with(b, mco1source, mco2source, plls))
+    let mco1source = Mco1Source::try_from(f.bytes[46])?;
+    let mco2source = Mco2Source::try_from(f.bytes[52])?;
+    let plls = plls(f)?;
+    Ok(request_with(f, mco1source, mco2source, plls))
 }

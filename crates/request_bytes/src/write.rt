@@ -1,96 +1,112 @@
-// A request's bytes, stored at their places.
-ghost use Rattle.std.specs.Prelude.{◌≡◌, ◌∷◌, ◌+◌, ◌≤◌, length};
-ghost use Rattle.rules.specs.Document01.Bytes.{u32le_bytes, hertz_bytes, pll_bytes, size_of};
-ghost use Rattle.request_bytes.specs.Writing.{is_written, Stored, three_bytes, clocks_bytes, outputs_bytes, plls_bytes};
+// A request's bytes, written one behind the other.
+ghost use Rattle.rules.specs.Document01.Bytes.{u32le_bytes, hertz_bytes, third_bytes, request_bytes};
+ghost use Rattle.room.specs.Write.{Wrote};
+ghost use Rattle.request_bytes.specs.Writing.{three_bytes, clocks_bytes, part_bytes, mco1_bytes, mco2_bytes, outputs_bytes, plls_bytes};
 
-use types::{PllRequest, Request};
+use room::Room;
+use types::{Mco1Source, Mco2Source, PllRequest, Request};
 
-// There is room for just the bytes, and on two PLLs nothing stands in the third part.
-#[tactic(auto, unfolding(crate::specs::Writing::is_written))]
-pub fn is_written(room: usize, three: bool, request: Request) -> bool
-    ensures { result ≡ is_written three request room }
-{
-    if room != request::size_of(three) {
-        return false;
-    }
-    three || hertz::is_no_part(request.plls[2])
-}
-
-// A byte and a word, little-endian.
-fn put_u32le(out: &mut [u8], at: usize, set: u8, n: u32)
-    requires { at + 5 ≤ length out.old }
-    ensures { Stored out.old out.new at (set ∷ u32le_bytes n) }
+// A word, little-endian.
+#[tactic(auto, using(room::proofs::Written::parts))]
+fn u32le(out: &mut Room<u8>, n: u32)
+    ensures { Wrote out.old out.new (u32le_bytes n) }
 {
     let bytes = n.to_le_bytes();
-    out[at] = set;
-    out[at + 1] = bytes[0];
-    out[at + 2] = bytes[1];
-    out[at + 3] = bytes[2];
-    out[at + 4] = bytes[3];
+    out.put(bytes[0]);
+    out.put(bytes[1]);
+    out.put(bytes[2]);
+    out.put(bytes[3]);
 }
 
-fn put_hertz(out: &mut [u8], at: usize, h: Option<u32>)
-    requires { at + 5 ≤ length out.old }
-    ensures { Stored out.old out.new at (hertz_bytes h) }
+#[tactic(auto, using(room::proofs::Written::parts))]
+fn hertz(out: &mut Room<u8>, h: Option<u32>)
+    ensures { Wrote out.old out.new (hertz_bytes h) }
 {
-    match h {
-        None => put_u32le(out, at, 0, 0),
-        Some(n) => put_u32le(out, at, 1, n),
-    }
+    out.put(h.is_some() as u8);
+    u32le(out, h.unwrap_or(0));
 }
 
 // Three hertz in a row.
-fn put_three(out: &mut [u8], at: usize, a: Option<u32>, b: Option<u32>, c: Option<u32>)
-    requires { at + 15 ≤ length out.old }
-    ensures { Stored out.old out.new at (three_bytes a b c) }
+#[tactic(auto, using(room::proofs::Written::parts))]
+fn three(out: &mut Room<u8>, a: Option<u32>, b: Option<u32>, c: Option<u32>)
+    ensures { Wrote out.old out.new (three_bytes a b c) }
 {
-    put_hertz(out, at, a);
-    put_hertz(out, at + 5, b);
-    put_hertz(out, at + 10, c);
+    hertz(out, a);
+    hertz(out, b);
+    hertz(out, c);
 }
 
 // A PLL's part.
-fn put_part(out: &mut [u8], at: usize, a: PllRequest)
-    requires { at + 16 ≤ length out.old }
-    ensures { Stored out.old out.new at (pll_bytes a) }
+#[tactic(auto, using(room::proofs::Written::parts), unfolding(crate::specs::Writing::part_bytes))]
+fn part(out: &mut Room<u8>, a: PllRequest)
+    ensures { Wrote out.old out.new (part_bytes a) }
 {
-    out[at] = a.strategy as u8;
-    put_three(out, at + 1, a.p, a.q, a.r);
+    out.put(a.strategy as u8);
+    three(out, a.p, a.q, a.r);
 }
 
-#[tactic(auto, using(crate::proofs::Writing::then, crate::proofs::Writing::three_length), unfolding(crate::specs::Writing::clocks_bytes))]
-pub fn put_clocks(out: &mut [u8], request: Request)
-    requires { 90 ≤ length out.old }
-    ensures { Stored out.old out.new 0 (clocks_bytes request) }
+#[tactic(auto, using(room::proofs::Written::parts), unfolding(crate::specs::Writing::clocks_bytes))]
+fn clocks(out: &mut Room<u8>, q: Request)
+    ensures { Wrote out.old out.new (clocks_bytes q) }
 {
-    put_three(out, 0, request.hse, request.lse, request.audio);
-    put_three(out, 15, request.system, request.peripheral, request.ahb);
-    put_three(out, 30, request.apb1, request.apb2, request.apb3);
+    three(out, q.hse, q.lse, q.audio);
+    three(out, q.system, q.peripheral, q.ahb);
+    three(out, q.apb1, q.apb2, q.apb3);
 }
 
-// The bypass flag, and MCO1 and MCO2 with their sources.
-#[tactic(auto, using(crate::proofs::Writing::outputs), unfolding(crate::specs::Writing::outputs_bytes))]
-pub fn put_outputs(out: &mut [u8], request: Request)
-    requires { 90 ≤ length out.old }
-    ensures { Stored out.old out.new 45 (outputs_bytes request) }
+// The bypass flag, and MCO1 with its source.
+#[tactic(auto, using(room::proofs::Written::parts, crate::proofs::Writing::codes), unfolding(crate::specs::Writing::mco1_bytes))]
+fn mco1(out: &mut Room<u8>, bypass: bool, source: Mco1Source, mco1: Option<u32>)
+    ensures { Wrote out.old out.new (mco1_bytes bypass source mco1) }
 {
-    out[45] = request.bypass as u8;
-    out[46] = request.mco1source as u8;
-    put_hertz(out, 47, request.mco1);
-    out[52] = request.mco2source as u8;
-    put_hertz(out, 53, request.mco2);
+    out.put(bypass as u8);
+    out.put(source as u8);
+    hertz(out, mco1);
+}
+
+// MCO2 with its source.
+#[tactic(auto, using(room::proofs::Written::parts, crate::proofs::Writing::codes), unfolding(crate::specs::Writing::mco2_bytes))]
+fn mco2(out: &mut Room<u8>, source: Mco2Source, mco2: Option<u32>)
+    ensures { Wrote out.old out.new (mco2_bytes source mco2) }
+{
+    out.put(source as u8);
+    hertz(out, mco2);
+}
+
+#[tactic(auto, using(room::proofs::Written::parts))]
+fn outputs(out: &mut Room<u8>, q: Request)
+    ensures { Wrote out.old out.new (outputs_bytes q) }
+{
+    mco1(out, q.bypass, q.mco1source, q.mco1);
+    mco2(out, q.mco2source, q.mco2);
 }
 
 // The PLL3 part is there on three PLLs only.
-#[tactic(auto, using(crate::proofs::Writing::then, crate::proofs::Writing::none, rules::proofs::Document01::BytesWhole::pll_length), unfolding(crate::specs::Writing::plls_bytes))]
-pub fn put_plls(out: &mut [u8], three: bool, request: Request)
-    requires { (90 ≤ length out.old) × (size_of three ≤ length out.old) }
-    ensures { Stored out.old out.new 58 (plls_bytes three request) }
+#[tactic(auto, unfolding(crate::specs::Writing::part_bytes))]
+fn third(out: &mut Room<u8>, three: bool, a: PllRequest)
+    ensures { Wrote out.old out.new (third_bytes three a) }
 {
-    let plls = request.plls;
-    put_part(out, 58, plls[0]);
-    put_part(out, 74, plls[1]);
     if three {
-        put_part(out, 90, plls[2]);
+        part(out, a);
     }
+}
+
+// The PLLs' parts.
+#[tactic(auto, using(room::proofs::Written::parts), unfolding(crate::specs::Writing::plls_bytes))]
+fn plls(out: &mut Room<u8>, three: bool, q: Request)
+    ensures { Wrote out.old out.new (plls_bytes three q) }
+{
+    part(out, q.plls[0]);
+    part(out, q.plls[1]);
+    third(out, three, q.plls[2]);
+}
+
+// The whole request.
+#[tactic(auto, using(room::proofs::Written::parts, crate::proofs::Writing::groups))]
+pub fn request(out: &mut Room<u8>, three: bool, q: Request)
+    ensures { Wrote out.old out.new (request_bytes three q) }
+{
+    clocks(out, q);
+    outputs(out, q);
+    plls(out, three, q);
 }

@@ -2,29 +2,29 @@
 ghost use Rattle.std.specs.Prelude.{◌<◌, IfSome};
 
 use ask::WrongWord;
-use types::{Plan, PllSettings, Refusal};
+use types::{Plan, Refusal};
 
 // The names of the numbers: of a PLL its settings, the dividers of P and Q, and the hertz of P.
-const NAMES: [&str; 19] = [
-    "refused",
-    "pll1.vcosel",
-    "pll1.m",
-    "pll1.n",
-    "pll1.divp",
-    "pll2.vcosel",
-    "pll2.target",
-    "pll2.m",
-    "pll2.ref",
-    "pll2.n",
-    "pll2.fracn",
-    "pll2.vco",
-    "pll2.divp",
-    "pll2.divq",
-    "pll2.hertz",
-    "latency",
-    "ahb",
-    "hpre",
-    "mco1pre",
+const NAMES: [&[u8]; 19] = [
+    b"refused",
+    b"pll1.vcosel",
+    b"pll1.m",
+    b"pll1.n",
+    b"pll1.divp",
+    b"pll2.vcosel",
+    b"pll2.target",
+    b"pll2.m",
+    b"pll2.ref",
+    b"pll2.n",
+    b"pll2.fracn",
+    b"pll2.vco",
+    b"pll2.divp",
+    b"pll2.divq",
+    b"pll2.hertz",
+    b"latency",
+    b"ahb",
+    b"hpre",
+    b"mco1pre",
 ];
 
 // A template with its numbers, over these names.
@@ -39,18 +39,12 @@ pub fn name_number(name: &[u8]) -> Option<usize>
     text::name_number(&NAMES, name)
 }
 
-fn pll(x: &Option<PllSettings>) -> [u32; 18] {
-    let mut words: [u32; 18] = [0; 18];
-    pll_words::store_pll(x, &mut words);
-    words
-}
-
 // The numbers in the order of their names. Beside a refusal they are 0.
 fn numbers(x: Result<Plan, Refusal>) -> [u32; 19] {
     match x {
         Ok(plan) => {
-            let a = pll(&plan.plls[0]);
-            let b = pll(&plan.plls[1]);
+            let a = pll_words::all_words(&plan.plls[0]);
+            let b = pll_words::all_words(&plan.plls[1]);
             [
                 0,
                 a[0],

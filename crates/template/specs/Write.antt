@@ -1,14 +1,6 @@
--- Bytes written one behind the other, as far as there is room.
-use Rattle.std.specs.Prelude.{◌≡◌, cond, List, [], ◌∷◌, ◌++◌, ℕ, zero, suc, ◌+◌, ◌-◌, ◌/◌, ◌%◌, min, ltb, length, get_or, replicate}
-use Rattle.std.proofs.lemmas.List.Edits.{sets}
+-- Numbers and names as texts.
+use Rattle.std.specs.Prelude.{cond, List, [], ◌∷◌, ◌++◌, ℕ, zero, suc, ◌+◌, ◌-◌, ◌/◌, ◌%◌, ltb, length, get_or, replicate}
 use Rattle.text.specs.Names.{column}
-use Rattle.template.specs.declared.out.Out.{Out}
-
--- a text written behind what is there: what the room holds then, and the place behind the text, or the room's end. It is the same room
-pub record Wrote (old new : Out) (text : List ℕ) : Type 0 where
-  pub holds : new.room.now ≡ sets old.room.now old.at text
-  pub place : new.at ≡ min (old.at + length text) (length old.room.now)
-  pub same : new.room.ghost_name ≡ old.room.ghost_name
 
 -- a number in decimal, of at most so many digits and one more
 abbrev pub digits_of : ℕ → ℕ → List ℕ

@@ -4,12 +4,12 @@
 ghost use Rattle.std.specs.Prelude.{◌≡◌, ◌<◌, min, length, get_or};
 ghost use Rattle.std.proofs.lemmas.List.Edits.{sets};
 ghost use Rattle.text.specs.Names.{texts_of};
-ghost use Rattle.template.specs.Write.{Wrote};
+ghost use Rattle.room.specs.Write.{Wrote};
 ghost use Rattle.template.specs.Template.{at_stage, shown_by, in_braces, next, command_writes, writes, filled};
 
-use out::Out;
+use room::Room;
+use write::{column, decimal, name};
 
-mod out;
 mod write;
 
 // Where a template is read: in its text, between braces, or between braces with nothing to come.
@@ -90,20 +90,20 @@ fn next_state(n: u64, s: State, b: u8) -> State
 
 // What a command writes.
 #[tactic(auto, unfolding(crate::specs::Template::command_writes))]
-fn command(names: &[&str], n: u64, width: usize, b: u8, out: &mut Out)
+fn command(names: &[&[u8]], n: u64, width: usize, b: u8, out: &mut Room<u8>)
     ensures { Wrote out.old out.new (command_writes (texts_of names.now) n width b) }
 {
     match b {
-        b'}' => out.decimal(width, n),
-        b'#' => out.name(names, n),
-        b'|' => out.column(names, n),
+        b'}' => decimal(out, width, n),
+        b'#' => name(out, names, n),
+        b'|' => column(out, names, n),
         _ => (),
     }
 }
 
 // What a byte writes.
 #[tactic(auto, unfolding(crate::specs::Template::writes))]
-fn act(names: &[&str], n: u64, s: State, b: u8, out: &mut Out)
+fn act(names: &[&[u8]], n: u64, s: State, b: u8, out: &mut Room<u8>)
     ensures { Wrote out.old out.new (writes (texts_of names.now) n s b) }
 {
     if !s.shown {
@@ -111,7 +111,7 @@ fn act(names: &[&str], n: u64, s: State, b: u8, out: &mut Out)
     }
     match s.stage {
         Stage::Text => if b != b'{' {
-            out.push(b);
+            out.put(b);
         },
         Stage::Braces => command(names, n, s.width, b, out),
         Stage::Done => (),
@@ -126,7 +126,7 @@ fn number_at(numbers: &[u64], k: usize) -> u64
 }
 
 // Writes what a template comes to.
-fn write_all(template: &[u8], names: &[&str], numbers: &[u64], out: &mut Out)
+fn write_all(template: &[u8], names: &[&[u8]], numbers: &[u64], out: &mut Room<u8>)
     ensures { Wrote out.old out.new (filled template.now (texts_of names.now) numbers.now) }
 {
     let mut s = at_stage(Stage::Text, true);
@@ -138,11 +138,11 @@ fn write_all(template: &[u8], names: &[&str], numbers: &[u64], out: &mut Out)
 }
 
 // Writes what a template comes to at the start of out, as far as there is room, and answers how many bytes that is.
-pub fn fill(template: &[u8], names: &[&str], numbers: &[u64], out: &mut [u8]) -> usize
+pub fn fill(template: &[u8], names: &[&[u8]], numbers: &[u64], out: &mut [u8]) -> usize
     ensures text { out.new ≡ sets out.old 0 (filled template.now (texts_of names.now) numbers.now) }
     ensures count { result ≡ min (length (filled template.now (texts_of names.now) numbers.now)) (length out.old) }
 {
-    let mut page = Out { room: out, at: 0 };
+    let mut page = Room { items: out, at: 0 };
     write_all(template, names, numbers, &mut page);
     page.at
 }

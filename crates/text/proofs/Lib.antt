@@ -2,3 +2,4 @@ pub mod Parts
 pub mod Stores
 pub mod Named
 pub mod Digits
+pub mod Least

@@ -1,27 +1,18 @@
 -- Laws on bytes stored from a place on.
-use mathlib.Core.Path.{◌≡◌, refl, sym, ap, ◌∙◌}
-use mathlib.Core.List.{List, [], ◌∷◌, ◌++◌}
-use Prim.Native.Nat.{ℕ, suc, ◌+◌, ◌-◌, ◌≤◌, min}
+use mathlib.Core.Path.{◌≡◌, sym, ap, ◌∙◌}
+use mathlib.Core.List.{List, [], ◌++◌}
+use Prim.Native.Nat.{ℕ, ◌+◌, ◌-◌, ◌≤◌, min}
 use native.Mathlib.Omega.{arith}
 use lib.Dec.{ltb}
-use lib.ListN.{length, set, take, drop, drop_of_length-le}
-use lib.Seq.{sets, length-sets, set_out, length-take-le}
+use lib.ListN.{length, take, drop, drop_of_length-le}
+use lib.Seq.{sets, length-sets, length-take-le}
 use borrow.Author.Tests.{ltb-true, ltb-false}
 use Rattle.laws.proofs.Tests.{by_test}
+use Rattle.room.proofs.Written.{past, joined}
 use borrow.Rule.Slice.PartMut.{put_mid, Post-is}
 use Rattle.std.proofs.Common.{append_assoc}
 use Rattle.std.proofs.lemmas.List.{take-append-drop}
 use Rattle.std.proofs.lemmas.List.Edits.{sets-eq}
-
--- a text past the room's end changes nothing
-pub past : (l : List ℕ) (i : ℕ) (vs : List ℕ) → length l ≤ i → sets l i vs ≡ l
-past l i [] h = refl
-past l i (v ∷ vs) h = rw (set_out l i v h) (past l (suc i) vs (omega arith))
-
--- two texts stored one behind the other are one
-pub joined : (l : List ℕ) (i : ℕ) (a b : List ℕ) → sets (sets l i a) (i + length a) b ≡ sets l i (a ++ b)
-joined l i [] b = ap (λ (k : ℕ). sets l k b) (omega arith)
-joined l i (v ∷ a) b = ap (λ (k : ℕ). sets (sets (set l i v) (suc i) a) k b) (omega arith) ∙ joined (set l i v) (suc i) a b
 
 -- as much of a text as there is room for
 module _ (room : List ℕ) (at : ℕ) (text : List ℕ) (n : ℕ) (e : n ≡ min (length text) (length room - at)) (h : at ≤ length room) where

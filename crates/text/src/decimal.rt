@@ -1,8 +1,9 @@
 // Digits, a point among them, and a unit behind them.
-ghost use Rattle.std.specs.Prelude.{◌≡◌, ◌≤◌, IfSome};
+ghost use Rattle.std.specs.Prelude.{◌≡◌, ◌≤◌, MatchOption, Some, None};
 ghost use Rattle.text.specs.Numbers.{read_digit, read_on, read_some, times_ten, with_places, pointed_by, unit_of};
 
 use crate::split_once;
+use crate::unit::{KILO, MEGA, Unit};
 
 // A number with one more digit; none where the byte is no digit, or the number reaches 2^32.
 fn read_digit(v: u32, b: u8) -> Option<u32>
@@ -48,36 +49,33 @@ fn times_ten(k: usize, v: u32) -> Option<u32>
     v.checked_mul(TENS[k])
 }
 
-// The zeros of a unit: k for kilo, M for mega; none for any other byte.
-pub fn unit_of(b: u8) -> Option<usize>
-    ensures value { result ≡ unit_of b }
-    ensures small { IfSome result (λ zeros. zeros ≤ 6) }
+// A unit: k for kilo, M for mega; none for any other byte.
+pub fn unit_of(b: u8) -> Option<Unit>
+    ensures { MatchOption result (None ≡ unit_of b) (λ unit. Some unit.zeros ≡ unit_of b) }
 {
     match b {
-        b'k' => Some(3),
-        b'M' => Some(6),
+        b'k' => Some(KILO),
+        b'M' => Some(MEGA),
         _ => None,
     }
 }
 
-// Digits before and behind a point, in a unit of so many zeros.
+// Digits before and behind a point, in a unit.
 #[tactic(auto, unfolding(crate::specs::Numbers::with_places))]
-fn with_places(unit: usize, whole: &[u8], places: &[u8]) -> Option<u32>
-    requires { unit ≤ 6 }
-    ensures { result ≡ with_places unit whole.now places.now }
+fn with_places(unit: Unit, whole: &[u8], places: &[u8]) -> Option<u32>
+    ensures { result ≡ with_places unit.zeros whole.now places.now }
 {
-    let zeros = unit.checked_sub(places.len())?;
+    let zeros = unit.zeros.checked_sub(places.len())?;
     times_ten(zeros, read_some(read_some(0, whole)?, places)?)
 }
 
-// Digits with a point among them or not, in a unit of so many zeros.
+// Digits with a point among them or not, in a unit.
 #[tactic(auto, unfolding(crate::specs::Numbers::pointed_by))]
-pub fn pointed(s: &[u8], unit: usize) -> Option<u32>
-    requires { unit ≤ 6 }
-    ensures { result ≡ pointed_by unit s.now }
+pub fn pointed(s: &[u8], unit: Unit) -> Option<u32>
+    ensures { result ≡ pointed_by unit.zeros s.now }
 {
     match split_once(s, b'.') {
         Some((whole, places)) => with_places(unit, whole, places),
-        None => times_ten(unit, read_some(0, s)?),
+        None => times_ten(unit.zeros, read_some(0, s)?),
     }
 }

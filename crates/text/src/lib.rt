@@ -8,6 +8,9 @@ ghost use Rattle.text.specs.Names.{before, behind, lacks, rest_behind, column, i
 ghost use Rattle.text.specs.Numbers.{read_some, hertz_of};
 
 mod decimal;
+mod unit;
+
+use unit::HERTZ;
 
 // The place of the first byte b.
 fn position(s: &[u8], b: u8) -> Option<usize>
@@ -44,7 +47,7 @@ pub fn around(s: &[u8], b: u8) -> (&[u8], Option<&[u8]>)
 }
 
 // Stores bytes from a place on, as far as there is room.
-#[tactic(auto, using(crate::proofs::Stores::stored, crate::proofs::Stores::past))]
+#[tactic(auto, using(crate::proofs::Stores::stored, room::proofs::Written::past))]
 pub fn store(room: &mut [u8], at: usize, s: &[u8])
     ensures { room.new ≡ sets room.old at s.now }
 {
@@ -62,10 +65,9 @@ fn is_blank(s: &[u8]) -> bool
 
 // Whether a name in its column, with blanks behind it up to twelve bytes, is the given one with blanks behind it.
 #[tactic(auto, using(crate::proofs::Named::same, crate::proofs::Named::listed_on, crate::proofs::Named::other, crate::proofs::Named::long))]
-pub fn is_name(listed: &str, name: &[u8]) -> bool
+pub fn is_name(listed: &[u8], name: &[u8]) -> bool
     ensures { result ≡ is_name (column listed.now) name.now }
 {
-    let listed = listed.as_bytes();
     let both = listed.len().min(name.len());
     if name.len() > listed.len().max(12) {
         return false;
@@ -77,7 +79,7 @@ pub fn is_name(listed: &str, name: &[u8]) -> bool
 }
 
 // The number of a name in a table of names; none where it is none of them.
-pub fn name_number(names: &[&str], name: &[u8]) -> Option<usize>
+pub fn name_number(names: &[&[u8]], name: &[u8]) -> Option<usize>
     ensures number { result ≡ number_in (texts_of names.now) name.now }
     ensures inside { IfSome result (λ k. k < length names.now) }
 {
@@ -97,10 +99,10 @@ pub fn hertz(s: &[u8]) -> Option<u32>
     ensures { result ≡ hertz_of s.now }
 {
     let Some((last, rest)) = s.split_last() else {
-        return decimal::pointed(s, 0);
+        return decimal::pointed(s, HERTZ);
     };
     match decimal::unit_of(*last) {
-        Some(zeros) => decimal::pointed(rest, zeros),
-        None => decimal::pointed(s, 0),
+        Some(unit) => decimal::pointed(rest, unit),
+        None => decimal::pointed(s, HERTZ),
     }
 }

@@ -19,8 +19,9 @@ pub const PLL2: PllNumber = PllNumber { k: 1 };
 
 pub const PLL3: PllNumber = PllNumber { k: 2 };
 
-#[derive(Clone, Copy)]
+#[derive(Clone, Copy, Default)]
 pub enum Strategy {
+    #[default]
     Integer,
     Fractional,
 }
@@ -44,7 +45,8 @@ pub enum Mco2Source {
     Lsi,
 }
 
-#[derive(Clone, Copy)]
+// The default is a part that says nothing.
+#[derive(Clone, Copy, Default)]
 pub struct PllRequest {
     pub strategy: Strategy,
     pub p: Option<u32>,
@@ -117,10 +119,10 @@ pub struct Asked {
     pub chip: ChipState,
 }
 
-// The listed refusals, in the order of their numbers, which specs/Document01/Refusals of crates/rules gives them.
+// The listed refusals, in the order of their numbers, from 1. Crate refusal promises that they are those of document 01.
 #[derive(Clone, Copy, PartialEq, Eq)]
 pub enum Refusal {
-    OutsideCodes,
+    OutsideCodes = 1,
     BankLength,
     AboveLimit,
     McoHseUnstated,

@@ -1,10 +1,18 @@
 // Numbers of the file, little-endian.
 use std::fs::File;
-use std::io::Read;
+use std::io::{ErrorKind, Read};
+
+// As many bytes as there is room for. Where the file ends before that, what is lacking stays as it was.
+pub fn fill(file: &mut File, room: &mut [u8]) -> std::io::Result<()> {
+    match file.read_exact(room) {
+        Err(e) if e.kind() == ErrorKind::UnexpectedEof => Ok(()),
+        result => result,
+    }
+}
 
 fn bytes<const N: usize>(file: &mut File) -> std::io::Result<[u8; N]> {
     let mut bytes = [0u8; N];
-    file.read_exact(&mut bytes)?;
+    fill(file, &mut bytes)?;
     Ok(bytes)
 }
 

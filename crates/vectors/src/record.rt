@@ -1,8 +1,8 @@
 // One record: a request, its chip and the Rust's answer, against the planner's.
+use crate::input;
 use crate::input::{byte, u16le, u32le};
 use crate::tally::Tally;
 use std::fs::File;
-use std::io::Read;
 use types::{Chip, Plan, Refusal};
 
 pub fn replay(file: &mut File, k: u32, t: &mut Tally) -> std::io::Result<()> {
@@ -30,7 +30,7 @@ fn planned(file: &mut File, length: u32) -> std::io::Result<Result<Plan, Refusal
         hsidiv: byte(file)?,
     };
     let mut request = [0u8; 128];
-    file.read_exact(&mut request)?;
+    input::fill(file, &mut request)?;
     let n = (length as usize).min(request.len());
     Ok(rcc::plan(&request[..n], chip))
 }

@@ -20,7 +20,7 @@ pub fn fresh() -> Tally {
 fn say(form: &[u8], numbers: &[u64]) {
     print::line(
         form,
-        &["realistic", "boundary", "full-range", "damaged"],
+        &[b"realistic", b"boundary", b"full-range", b"damaged"],
         numbers,
     );
 }

@@ -1,7 +1,7 @@
 -- A line from its parts.
 use Rattle.std.specs.Prelude.{Option, Some, None, is_some, unwrap_or}
 use mathlib.Core.Path.{◌≡◌, refl}
-use mathlib.Core.Bool.{true, false, not}
+use mathlib.Core.Bool.{true, false}
 use mathlib.Core.List.{List, [], ◌∷◌}
 use Prim.Native.Nat.{ℕ, ◌+◌, ◌*◌, ◌≤◌, ◌<◌}
 use lib.Dec.{eqb}
@@ -26,7 +26,7 @@ all_five known h (Some x) = let d = x.denominator in by_test (eqb d 0) (λ (t : 
 module _ (report bank : List ℕ) (hse : Option ℕ) (k : ℕ) where
   pub line :
       k ≤ 25 → (there hertz : ℕ) (from : Option ℕ) (known divisor : ℕ) (x : Option Exact) (e : List ℕ) → there ≡ word report (2 * k) → hertz ≡ word report (2 * k + 1) →
-      from ≡ from_of bank k → known ≡ bit (is_some from) → divisor ≡ divisor_of bank k → x ≡ reading_of (path_by bank (fed_by hse) k) →
+      from ≡ from_of bank k → known ≡ bit (is_some from) → divisor ≡ unwrap_or (divisor_of bank k) 0 → x ≡ reading_of (path_by bank (fed_by hse) k) →
       e ≡ exact_parts known hertz x → k ∷ there ∷ hertz ∷ unwrap_or from 29 ∷ known ∷ divisor ∷ five e ≡ line_of report bank hse k
   unfolding line_of
   line h there hertz from known divisor x e e1 e2 e3 e4 e5 e6 e7 =

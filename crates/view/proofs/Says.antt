@@ -1,5 +1,5 @@
 -- What a line says a clock comes from, and what divides it, are the steps of the clock tree (Manual/Tree), for any bank.
-use Rattle.std.specs.Prelude.{Option, Some, None}
+use Rattle.std.specs.Prelude.{Option, Some, None, unwrap_or}
 use mathlib.Core.Path.{◌≡◌, refl, ap}
 use mathlib.Core.Bool.{Bool, true, false, cond}
 use mathlib.Core.List.{List, [], ◌∷◌}
@@ -34,36 +34,40 @@ of_number b fed (Some k) = path_by b fed k
 abbrev pub named : List ℕ → Oscillator → (k : ℕ) → Chain
 named b fed k = of_number b fed (from_of b k)
 
+-- what the line of clock k says divides it
+abbrev pub divided_by : List ℕ → (k : ℕ) → ℕ
+divided_by b k = unwrap_or (divisor_of b k) 0
+
 pub record LinesSay (b : List ℕ) (fed : Oscillator) : Type 0 where
   -- the system clock and the peripheral clock are the clock that their line names
   pub sys : path_by b fed 0 ≡ named b fed 0
   pub per : path_by b fed 7 ≡ named b fed 7
   -- the buses and the clock outputs are it, divided
-  pub ahb : path_by b fed 1 ≡ over (named b fed 1) (divisor_of b 1)
-  pub apb1 : path_by b fed 2 ≡ over (named b fed 2) (divisor_of b 2)
-  pub apb2 : path_by b fed 3 ≡ over (named b fed 3) (divisor_of b 3)
-  pub apb3 : path_by b fed 4 ≡ over (named b fed 4) (divisor_of b 4)
-  pub mco1 : path_by b fed 15 ≡ over (named b fed 15) (divisor_of b 15)
-  pub mco2 : path_by b fed 16 ≡ over (named b fed 16) (divisor_of b 16)
+  pub ahb : path_by b fed 1 ≡ over (named b fed 1) (divided_by b 1)
+  pub apb1 : path_by b fed 2 ≡ over (named b fed 2) (divided_by b 2)
+  pub apb2 : path_by b fed 3 ≡ over (named b fed 3) (divided_by b 3)
+  pub apb3 : path_by b fed 4 ≡ over (named b fed 4) (divided_by b 4)
+  pub mco1 : path_by b fed 15 ≡ over (named b fed 15) (divided_by b 15)
+  pub mco2 : path_by b fed 16 ≡ over (named b fed 16) (divided_by b 16)
   -- the timers
-  pub timx : TimerSays (path_by b fed 5) (named b fed 5) (divisor_of b 5)
-  pub timy : TimerSays (path_by b fed 6) (named b fed 6) (divisor_of b 6)
+  pub timx : TimerSays (path_by b fed 5) (named b fed 5) (divided_by b 5)
+  pub timy : TimerSays (path_by b fed 6) (named b fed 6) (divided_by b 6)
   -- an output of a PLL is its VCO divided, behind ON and the output's enable
   pub outputs :
       (j : PllName) (o : Output) →
-      path_by b fed (output_at j o) ≡ gated (pll_word b j Fields.ON) (gated (pll_word b j (enable o)) (over (Tree.vco_of b fed j) (divisor_of b (output_at j o))))
+      path_by b fed (output_at j o) ≡ gated (pll_word b j Fields.ON) (gated (pll_word b j (enable o)) (over (Tree.vco_of b fed j) (divided_by b (output_at j o))))
 
 none_by_0 : (c : Chain) → none ≡ over c 0
 none_by_0 none = refl
 none_by_0 (Tree.along p) = refl
 
 -- AHB by some PPREs, divided by others, none by any other
-choice_says : (one some : Bool) (d : ℕ) (ahb : Chain) → TimerSays (cond one ahb (cond some (over ahb d) none)) ahb (cond one 1 (cond some d 0))
+choice_says : (one some : Bool) (d : ℕ) (ahb : Chain) → TimerSays (cond one ahb (cond some (over ahb d) none)) ahb (unwrap_or (cond one (Some 1) (cond some (Some d) None)) 0)
 choice_says true some d ahb = inr (refl, refl)
 choice_says false true d ahb = inl refl
 choice_says false false d ahb = inl (none_by_0 ahb)
 
-timer_says : (t ppre : ℕ) (ahb : Chain) → TimerSays (timer_by t ppre ahb) ahb (timer_divisor t ppre)
+timer_says : (t ppre : ℕ) (ahb : Chain) → TimerSays (timer_by t ppre ahb) ahb (unwrap_or (timer_divisor t ppre) 0)
 timer_says zero ppre ahb = choice_says (among (1 ∷ 2 ∷ []) ppre) (among (4 ∷ 8 ∷ 16 ∷ []) ppre) (ppre / 2) ahb
 timer_says (suc t) ppre ahb =
     rw (ne_eqb (suc t) 0 (omega arith)) (choice_says (among (1 ∷ 2 ∷ 4 ∷ []) ppre) (among (8 ∷ 16 ∷ []) ppre) (ppre / 4) ahb)
@@ -110,7 +114,7 @@ module _ (b : List ℕ) (fed : Oscillator) where
 
   output_says :
       (j : PllName) (o : Output) →
-      path_by b fed (output_at j o) ≡ gated (pll_word b j Fields.ON) (gated (pll_word b j (enable o)) (over (Tree.vco_of b fed j) (divisor_of b (output_at j o))))
+      path_by b fed (output_at j o) ≡ gated (pll_word b j Fields.ON) (gated (pll_word b j (enable o)) (over (Tree.vco_of b fed j) (divided_by b (output_at j o))))
   unfolding clocks_by divisor_of path_of Tree.output_of
   output_says pll1 P = refl
   output_says pll1 Q = refl

@@ -36,16 +36,16 @@ from_of b k =
     (cond (eqb k 15) (mco1_clock (word b Fields.MCO1SEL))
     (cond (eqb k 16) (mco2_clock (word b Fields.MCO2SEL)) (cond (leb k 25) (Some (26 + (k - 17) / 3)) None)))))))
 
--- ---- what divides it; 0 for nothing
+-- ---- what divides it; none for nothing
 -- HPRE and the PPREs stand one behind the other; P, Q and R of a PLL two words apart, as dividers less 1
-unfoldable pub divisor_of : (bank : List ℕ) → (k : ℕ) → ℕ
+unfoldable pub divisor_of : (bank : List ℕ) → (k : ℕ) → Option ℕ
 divisor_of b k =
-    cond (eqb k 0) 0
-    (cond (leb k 4) (word b (Fields.HPRE + (k - 1)))
+    cond (eqb k 0) None
+    (cond (leb k 4) (Some (word b (Fields.HPRE + (k - 1))))
     (cond (leb k 6) (timer_divisor (word b Fields.TIMPRE) (word b (Fields.PPRE1 + (k - 5))))
-    (cond (leb k 14) 0
-    (cond (eqb k 15) (word b Fields.MCO1PRE)
-    (cond (eqb k 16) (word b Fields.MCO2PRE) (cond (leb k 25) (word b (15 * ((k - 17) / 3) + 2 * ((k - 17) % 3) + Fields.P) + 1) 0))))))
+    (cond (leb k 14) None
+    (cond (eqb k 15) (Some (word b Fields.MCO1PRE))
+    (cond (eqb k 16) (Some (word b Fields.MCO2PRE)) (cond (leb k 25) (Some (word b (15 * ((k - 17) / 3) + 2 * ((k - 17) % 3) + Fields.P) + 1)) None))))))
 
 -- ---- the line
 -- no exact fraction: from a PLL that is not started
@@ -61,11 +61,11 @@ exact_parts known h (Some x) =
     (bit (not (eqb (x.numerator % x.denominator) 0 && eqb (x.numerator / x.denominator) h))
     ∷ x.numerator / x.denominator ∷ x.numerator % x.denominator ∷ x.denominator ∷ 0 ∷ [])
 
--- clock k: its number, whether it is reported, its hertz, where it comes from, 29 for nothing, and whether from anywhere, what divides it; then the
--- parts
+-- clock k: its number, whether it is reported, its hertz, where it comes from, 29 for nothing, and whether from anywhere, what divides it, 0 for
+-- nothing; then the parts
 abbrev pub clock_line : (report bank : List ℕ) → (hse : Option ℕ) → (k : ℕ) → List ℕ
 clock_line report bank hse k =
-    k ∷ word report (2 * k) ∷ word report (2 * k + 1) ∷ unwrap_or (from_of bank k) 29 ∷ bit (is_some (from_of bank k)) ∷ divisor_of bank k
+    k ∷ word report (2 * k) ∷ word report (2 * k + 1) ∷ unwrap_or (from_of bank k) 29 ∷ bit (is_some (from_of bank k)) ∷ unwrap_or (divisor_of bank k) 0
     ∷ exact_parts (bit (is_some (from_of bank k))) (word report (2 * k + 1)) (reading_of (path_by bank (fed_by hse) k))
 
 -- of the 26 that there are

@@ -40,7 +40,7 @@ pub fn clock_line(report: &[u32], bank: &[u32], hse: Option<u32>, k: usize) -> [
     let hertz = word(report, 2 * k + 1) as u64;
     let from = tree::from_of(bank, k);
     let known = u64::from(from.is_some());
-    let divisor = tree::divisor_of(bank, k);
+    let divisor = tree::divisor_of(bank, k).unwrap_or(0);
     let e = exact_parts(known, hertz, exact::clock_reading(bank, hse, k));
     [
         k as u64,

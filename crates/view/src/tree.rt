@@ -32,20 +32,20 @@ pub fn from_of(bank: &[u32], k: usize) -> Option<usize>
     }
 }
 
-// What divides clock k.
+// What divides clock k, where something does.
 #[tactic(auto, unfolding(crate::specs::View::divisor_of))]
-pub fn divisor_of(bank: &[u32], k: usize) -> u64
+pub fn divisor_of(bank: &[u32], k: usize) -> Option<u64>
     ensures { result ≡ divisor_of bank.now k }
 {
     match k {
-        1..=4 => word(bank, HPRE + (k - 1)) as u64,
-        5..=6 => timer_divisor(word(bank, TIMPRE), word(bank, PPRE1 + (k - 5))) as u64,
-        15 => word(bank, MCO1PRE) as u64,
-        16 => word(bank, MCO2PRE) as u64,
+        1..=4 => Some(word(bank, HPRE + (k - 1)) as u64),
+        5..=6 => timer_divisor(word(bank, TIMPRE), word(bank, PPRE1 + (k - 5))).map(u64::from),
+        15 => Some(word(bank, MCO1PRE) as u64),
+        16 => Some(word(bank, MCO2PRE) as u64),
         17..=25 => {
             let pll = PllNumber { k: (k - 17) / 3 };
-            word(bank, of_pll(pll, 2 * ((k - 17) % 3) + P)) as u64 + 1
+            Some(word(bank, of_pll(pll) + 2 * ((k - 17) % 3) + P) as u64 + 1)
         }
-        _ => 0,
+        _ => None,
     }
 }

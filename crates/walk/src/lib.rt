@@ -55,16 +55,11 @@ fn passed(w: Walk, e: Entry, a: u32, b: u32) -> Walk
     ensures { result ≡ passed_walk e w a b }
 {
     if passes(e, a, b) {
-        return Walk {
-            planned: w.planned,
-            at: w.at + 1,
-            down: w.down,
-        };
+        return Walk { at: w.at + 1, ..w };
     }
     Walk {
-        planned: w.planned,
-        at: w.at,
         down: is_check(e),
+        ..w
     }
 }
 

@@ -3,17 +3,8 @@ use types::{
     ChipState, Hsidiv, Mco1Source, Mco2Source, Plan, PllRequest, Refusal, Request, Scale, Strategy,
 };
 
-fn asked(strategy: Strategy, p: Option<u32>) -> PllRequest {
-    PllRequest {
-        strategy,
-        p,
-        q: None,
-        r: None,
-    }
-}
-
 fn request(system: Option<u32>, pll2: PllRequest) -> Request {
-    let none = asked(Strategy::Integer, None);
+    let none = PllRequest::default();
     Request {
         hse: None,
         lse: None,
@@ -46,12 +37,15 @@ fn planned(q: Request, odd: bool) -> Result<Plan, Refusal> {
 
 // Odd P forbidden, system 250 MHz.
 pub fn setting_a() -> Result<Plan, Refusal> {
-    let none = asked(Strategy::Integer, None);
-    planned(request(Some(250_000_000), none), false)
+    planned(request(Some(250_000_000), PllRequest::default()), false)
 }
 
 // PLL2 Fractional, P 12,288,000.
 pub fn setting_c() -> Result<Plan, Refusal> {
-    let pll2 = asked(Strategy::Fractional, Some(12_288_000));
+    let pll2 = PllRequest {
+        strategy: Strategy::Fractional,
+        p: Some(12_288_000),
+        ..PllRequest::default()
+    };
     planned(request(None, pll2), true)
 }

@@ -29,8 +29,8 @@ fn field(f: usize) {
     let name = print::FIELDS
         .get(f.saturating_add(1))
         .copied()
-        .unwrap_or("");
-    for b in name.as_bytes() {
+        .unwrap_or(b"");
+    for b in name {
         say(&[if *b == b'.' { b' ' } else { *b }]);
     }
 }

@@ -3,7 +3,7 @@ use print::{named, say};
 use types::{Refusal, Reset, ResetReason};
 
 // The flags, from bit 26 of the register on.
-const FLAGS: [&str; 6] = [" PIN", " BOR", " SFT", " IWDG", " WWDG", " LPWR"];
+const FLAGS: [&[u8]; 6] = [b" PIN", b" BOR", b" SFT", b" IWDG", b" WWDG", b" LPWR"];
 
 pub fn all() {
     for set in 0..64 {
@@ -18,7 +18,7 @@ fn one(set: u32) {
     }
     for (k, name) in FLAGS.iter().enumerate() {
         if set >> k & 1 == 1 {
-            say(name.as_bytes());
+            say(name);
         }
     }
     say(b": ");

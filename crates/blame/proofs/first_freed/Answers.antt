@@ -14,10 +14,10 @@ loop-k-preserved g c =
     let l = c.loop-k in
     (l.invariant.0, λ f h. l.invariant.1 f h ∙ goes_on f _ l.tried _ l.k-index c.loop-k-test.true (h _ _ _ c.next-less.ensures) c.refusal_on.ensures l.invariant.0 (agrees _ (λ m n. refl) _ _ c.ne.ensures c.if-ne.false))
 
-pub returns-then-ne-clause-first : goal.returns-then-ne-clause-first
-returns-then-ne-clause-first g c =
+pub returns-then-ne : goal.returns-then-ne
+returns-then-ne g c =
     let l = c.loop-k in
     λ f h. sym (l.invariant.1 f h ∙ stops f _ l.tried _ l.k-index c.loop-k-test.true (h _ _ _ c.next-less.ensures) c.refusal_on.ensures l.invariant.0 (differs _ (λ m n. refl) _ _ c.ne.ensures c.if-ne.true))
 
-pub returns-clause-first : goal.returns-clause-first
-returns-clause-first g c = let l = c.loop-k in λ f h. sym (l.invariant.1 f h ∙ ends f _ l.tried _ l.k-index c.loop-k-test.false)
+pub returns : goal.returns
+returns g c = let l = c.loop-k in λ f h. sym (l.invariant.1 f h ∙ ends f _ l.tried _ l.k-index c.loop-k-test.false)

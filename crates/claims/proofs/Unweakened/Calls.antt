@@ -24,7 +24,7 @@ use Rattle.claims.specs.Demands.Rows.{◌when◌, AsRows}
 use Rattle.laws.proofs.Tests.{never}
 use Rattle.rules.proofs.Document01.Results.{not_ok}
 use Rattle.rules.proofs.Computes.{by_rules, by_bank}
-use Rattle.rules.proofs.Samples.{nothing, plls3, chip, state, a, plan_a, plan_in}
+use Rattle.rules.proofs.Samples.{nothing, plls3, chip, state, a, plan_a}
 use Rattle.claims.proofs.Readings.NonVacuous as NonVacuous
 use Rattle.claims.proofs.Unweakened.Agreement.{one_clock}
 use Rattle.claims.proofs.Unweakened.Legal.{dead, in_pll1}
@@ -78,8 +78,8 @@ pub word_written : (n : Refusal) → Kept (refusing n) (0 ∷ []) (1 ∷ []) →
 word_written n h = let z : ◌≡◌ {A = ℕ} 1 0 = ap (λ (b : List ℕ). get_or b 0 0) (h n refl) in omega arith
 
 -- a plan where a row holds; a refusal where none does; the number of a later row
-pub plan_by_rows : AsRows (3 when true ∷ []) (planned (plan_in plan_a)) → ⊥
-plan_by_rows h = let e : ◌≡◌ {A = Option ℕ} (Some 3) None = h.plan.0 refl in let z : ◌≡◌ {A = ℕ} 0 1 = cc in omega arith
+pub plan_by_rows : (p : Plan) → AsRows (3 when true ∷ []) (planned p) → ⊥
+plan_by_rows p h = let e : ◌≡◌ {A = Option ℕ} (Some 3) None = h.plan.0 refl in let z : ◌≡◌ {A = ℕ} 0 1 = cc in omega arith
 
 pub refused_by_rows : AsRows (3 when false ∷ []) (refusing AboveLimit) → ⊥
 refused_by_rows h = let e : ◌≡◌ {A = Option ℕ} None (Some 3) = (h.refusal AboveLimit).0 refl in let z : ◌≡◌ {A = ℕ} 0 1 = cc in omega arith

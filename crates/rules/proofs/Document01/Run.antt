@@ -11,7 +11,7 @@ use Rattle.rules.specs.Document01.Walk.{Stand, shown_of}
 use Rattle.rules.specs.Words.{shown_words, nine_at, stored_at, stand_after, ran, shown_count}
 
 -- no more are stored than the reads have steps for, nor than the room holds
-count_bounds : (reads room : ℕ) → (shown_count reads room ≤ reads / 2 + 1) × (9 * shown_count reads room ≤ room)
+pub count_bounds : (reads room : ℕ) → (shown_count reads room ≤ reads / 2 + 1) × (9 * shown_count reads room ≤ room)
 count_bounds reads room = go (ltb (room / 9) (reads / 2 + 1)) refl
   where
     go : (t : Bool) → ltb (room / 9) (reads / 2 + 1) ≡ t → (cond t (room / 9) (reads / 2 + 1) ≤ reads / 2 + 1) × (9 * cond t (room / 9) (reads / 2 + 1) ≤ room)
@@ -26,7 +26,7 @@ stored_length b at w = go (leb (at + 9) (length b))
     go true = simp length-set
     go false = refl
 
-ran_length : (step : Stand → ℕ → ℕ → Stand) (s : Stand) (reads room : List ℕ) (i : ℕ) → length (ran step s reads room i) ≡ length room
+pub ran_length : (step : Stand → ℕ → ℕ → Stand) (s : Stand) (reads room : List ℕ) (i : ℕ) → length (ran step s reads room i) ≡ length room
 ran_length step s reads room zero = refl
 ran_length step s reads room (suc i) = stored_length (ran step s reads room i) (9 * i) (shown_words (shown_of (stand_after step s reads i))) ∙ ran_length step s reads room i
 

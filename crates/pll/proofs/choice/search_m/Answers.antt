@@ -12,20 +12,18 @@ use Rattle.pll.proofs.choice.search_m.Goals.{then-short-least, else-short-least}
 pub loop-m-preserved : goal.loop-m-preserved
 loop-m-preserved c =
     let i = c.loop-m.invariant in
-    let h = c.loop-m-test.true in
     let r = c.shortfall-short in (
       omega arith,
       omega arith,
-      inr (held c.args.medium c.args.source c.loop-m.m _ c.requires.0 i.0 c.last_m-last.ensures h c.args.target _ _ _ _ _ i.2 (to_z-of_z w32 r.result (record { sfits = r.type_inv }) ∙ r.ensures)
+      inr (held c.args.medium c.args.source c.loop-m.m _ c.requires.0 i.0 c.last_m-last.ensures (omega arith) c.args.target _ _ _ _ _ i.2 (to_z-of_z w32 r.result (record { sfits = r.type_inv }) ∙ r.ensures)
           (elim c.if-short-least.branch [ then-short-least w ↦ inl (w.if-short-least.true, w.best-is, w.least-is) | else-short-least w ↦ inr (w.if-short-least.false, w.best-is, w.least-is) ])),
     )
 
 pub returns-after-short-least : goal.returns-after-short-least
 returns-after-short-least c =
     let i = c.loop-m.invariant in
-    let h = c.loop-m-test.true in
     let l = c.last_m-last.ensures in
     let r = c.shortfall-short in
     all_held _ _ _ (c.loop-m.m + 1 - 1) _ c.requires.0 l (omega arith)
-    (held c.args.medium c.args.source c.loop-m.m _ c.requires.0 i.0 l h c.args.target _ _ _ _ _ i.2 (to_z-of_z w32 r.result (record { sfits = r.type_inv }) ∙ r.ensures)
+    (held c.args.medium c.args.source c.loop-m.m _ c.requires.0 i.0 l (omega arith) c.args.target _ _ _ _ _ i.2 (to_z-of_z w32 r.result (record { sfits = r.type_inv }) ∙ r.ensures)
     (elim c.if-short-least.branch [ then-short-least w ↦ inl (w.if-short-least.true, w.best-is, w.least-is) | else-short-least w ↦ inr (w.if-short-least.false, w.best-is, w.least-is) ])).0

@@ -1,6 +1,6 @@
 -- The loop of `template::write::digits`.
-use Rattle.template.proofs.Digits.{Row}
+use Rattle.template.proofs.Digits.{Begun}
 use Rattle.template.proofs.write.digits.Given as goal
 
-abbrev pub invariant-loop-i : goal.invariant-loop-i
-invariant-loop-i l = Row l.n l.rest l.i l.row
+abbrev pub invariant-loop-k : goal.invariant-loop-k
+invariant-loop-k l = Begun l.n l.count l.initial.out l.out l.k
