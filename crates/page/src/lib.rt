@@ -20,8 +20,8 @@ fn clocks(report: &[u32], bank: &[u32], hse: Option<u32>) {
 }
 
 fn pll(n: u32, x: &Option<PllSettings>, src: u32) {
-    let numbers = lines::pll_line(n, src, &pll_words::all_words(x));
-    if numbers[2] != 0 {
+    if x.is_some() {
+        let numbers = lines::pll_line(n, src, &pll_words::all_words(x));
         print::line(
             b"pll{0}        {1#} / {2} = {3}, x {4}{5?} + {6}/8192{.}, VCO {7}, {8#}\n",
             &print::CLOCKS,

@@ -139,19 +139,14 @@ fn rge_of(reference: u32) -> u32
         + (8_000_000 <= reference) as u32
 }
 
-// An output's divider and hertz. By a match, which is shorter in the machine's code than a `?`.
+// An output's divider and hertz.
 fn output_of(target: u32, vco: u32, h: Option<u32>) -> Option<PllOutput>
     requires { HasDivider target h }
     ensures { result ≡ Rules.output_of target vco h }
 {
-    match h {
-        None => None,
-        Some(f) => {
-            let divider = target / f;
-            Some(PllOutput {
-                divider,
-                clock: vco / divider,
-            })
-        }
-    }
+    let divider = target / h?;
+    Some(PllOutput {
+        divider,
+        clock: vco / divider,
+    })
 }
