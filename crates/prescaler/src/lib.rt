@@ -78,7 +78,7 @@ fn bus<F: Fn(u32) -> u32>(clock: u32, requested: Option<u32>, divisor: F) -> Res
 }
 
 // AHB from the system clock, with refusals 18 and 19.
-#[tactic(auto, using(crate::proofs::Up::hpre_above), unfolding(rules::specs::Document01::Buses::ahb_of))]
+#[tactic(auto, using(rules::proofs::Document01::Ratios::hpre_pos), unfolding(rules::specs::Document01::Buses::ahb_of))]
 pub fn ahb(system: u32, requested: Option<u32>) -> Result<Bus, Refusal>
     ensures { result ≡ ahb_of system requested }
 {
@@ -90,7 +90,7 @@ pub fn ahb(system: u32, requested: Option<u32>) -> Result<Bus, Refusal>
 }
 
 // An APB from the AHB clock, with refusal 18.
-#[tactic(auto, using(crate::proofs::Up::ppre_above), unfolding(rules::specs::Document01::Buses::apb_of))]
+#[tactic(auto, using(rules::proofs::Document01::Ratios::ppre_pos), unfolding(rules::specs::Document01::Buses::apb_of))]
 pub fn apb(hclk: u32, requested: Option<u32>) -> Result<Bus, Refusal>
     ensures { result ≡ apb_of hclk requested }
 {
