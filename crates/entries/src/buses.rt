@@ -12,6 +12,9 @@ use types::{Buses, Selectors};
 pub fn buses<S: Sink>(b: &Buses, sel: &Selectors, s: &mut S, room: &mut [u32])
     ensures { (s.new, room.new) ≡ told S.after (bus_entries b.now sel.now) (s.old, room.old) }
 {
+    if s.passes(10) {
+        return;
+    }
     s.set4(
         HPRE, b.ahb.pre, PPRE1, b.apb1.pre, PPRE2, b.apb2.pre, PPRE3, b.apb3.pre, room,
     );

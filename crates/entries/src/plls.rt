@@ -1,5 +1,5 @@
 // What the PLLs add to the list: what sets each up, its SRC, and its start.
-ghost use Rattle.std.specs.Prelude.{◌≡◌};
+ghost use Rattle.std.specs.Prelude.{◌≡◌, ℕ, length};
 ghost use Rattle.rules.specs.Document01.Entries.{base_entries, fraction_entries, output_entries, output_start, setting_entries, setup_entries, setups, source_entries, start_entries, starts};
 ghost use Rattle.entries.specs.Sink.{told};
 
@@ -56,12 +56,25 @@ fn setting<S: Sink>(pll: PllNumber, x: &PllSettings, s: &mut S, room: &mut [u32]
     output(at + R, at + REN, x.r, s, room)
 }
 
+// How many entries set a PLL up: seven, three more for a fraction, and one more for each output.
+#[tactic(auto, using(crate::proofs::Counted::setting_is))]
+fn setting_count(x: &PllSettings) -> usize
+    ensures { (k : ℕ) → result ≡ length (setting_entries k x.now) }
+{
+    let fraction = x.fraction.is_some() as usize;
+    let outputs = x.p.is_some() as usize + x.q.is_some() as usize + x.r.is_some() as usize;
+    7 + 3 * fraction + outputs
+}
+
 // A PLL that is skipped adds no entry but its SRC.
+#[tactic(auto, using(crate::proofs::Told::told_passed))]
 fn set_up<S: Sink>(pll: PllNumber, x: &Option<PllSettings>, s: &mut S, room: &mut [u32])
     ensures { (s.new, room.new) ≡ told S.after (setup_entries pll.k x.now) (s.old, room.old) }
 {
     if let Some(settings) = x {
-        setting(pll, settings, s, room)
+        if !s.passes(setting_count(settings)) {
+            setting(pll, settings, s, room)
+        }
     }
 }
 

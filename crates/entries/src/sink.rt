@@ -1,7 +1,8 @@
 // What takes the entries of a list, one after the other, with a room of words lent to it.
-ghost use Rattle.std.specs.Prelude.{◌≡◌, ℕ, List};
+ghost use Rattle.std.specs.Prelude.{◌≡◌, ℕ, List, true, false};
 ghost use Rattle.types.specs.declared.Entry.{Entry};
 ghost use Rattle.types.specs.declared.Entry.TheVariants.{Check, Set, Set2, Set3, Set4, Wait, Wait2};
+ghost use Rattle.entries.specs.Sink.{Passes};
 
 use types::Entry;
 
@@ -9,6 +10,14 @@ use types::Entry;
 pub trait Sink {
     // What becomes of the sink and its room by an entry.
     ghost after: { Entry → Self × List ℕ → Self × List ℕ };
+
+    // Whether the next n entries need not be told, whichever they are: the sink is then as after them, and its room is as it was.
+    fn passes(&mut self, _n: usize) -> bool
+        ensures passed { result ≡ true → Passes after _n self.old self.new }
+        ensures kept { result ≡ false → self.new ≡ self.old }
+    {
+        false
+    }
 
     fn take(&mut self, e: Entry, room: &mut [u32])
         ensures { (self.new, room.new) ≡ after e (self.old, room.old) };

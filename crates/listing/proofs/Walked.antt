@@ -17,10 +17,12 @@ use Rattle.types.specs.declared.Refusal.TheVariants.{CsiDown}
 use Rattle.types.specs.declared.Plan.{Plan}
 use Rattle.rules.specs.Document01.Entries.{plan_entries, entries_of}
 use Rattle.rules.specs.Document01.Walk.{Stand, before, ended, shown_of, passes, is_check, stepped_of, fresh_of}
-use Rattle.rules.specs.Words.{entry_words, shown_words, three_at, stored_at, stand_after, ran}
+use Rattle.rules.specs.Words.{entry_words, shown_words, three_at, stored_at, stand_after, ran, shown_count}
 use Rattle.rules.proofs.Document01.Run.{stored_length, ran_length}
+use Rattle.rules.proofs.Document01.Run.{count_bounds as steps_bounds}
 use Rattle.listing.specs.Showing.{Showing, showing, seen, passed_at, once, show_one, show_all}
-use Rattle.listing.specs.Walked.{filled, last_read, end_of}
+use Rattle.words.specs.Filled.{filled}
+use Rattle.listing.specs.Walked.{last_read, end_of}
 use Rattle.listing.proofs.Showing.{no_room, not_passed, one_step, ended_stays}
 
 module _ (s₀ : Stand) (reads room₀ : List ℕ) (n : ℕ) (enough : last_read n ≤ length reads) (all : length room₀ ≤ 9 * n) where
@@ -121,9 +123,9 @@ module _ (s₀ : Stand) (reads room₀ : List ℕ) (n : ℕ) (enough : last_read
       let b : i < n = omega arith in
       fill_led t w e f k (i + 1) (stored_at room (9 * i) w) (omega arith) (next w g e false t (λ l. f (get_or reads (2 * i) 0) (get_or reads (2 * i + 1) 0)))
 
--- ---- the same words from place k to the end, one of them stored
-pub fills_on : (n k : ℕ) (w room : List ℕ) → k < n → filled (n - (k + 1)) (k + 1) w (stored_at room (9 * k) w) ≡ filled (n - k) k w room
-fills_on n k w room h = let l : n - k ≡ suc (n - (k + 1)) = omega arith in rw l refl
+-- ---- lengths: no more are shown than there is room for, nor than there are values for
+pub count_bounds : (reads room : ℕ) → (last_read (shown_count reads room) ≤ reads) × (9 * shown_count reads room ≤ room)
+count_bounds reads room = let b = steps_bounds reads room in (omega arith, b.1)
 
 -- ---- of an answer
 all_led : (x : Result Plan Refusal) (reads room : List ℕ) (n : ℕ) (enough : last_read n ≤ length reads) (all : length room ≤ 9 * n)

@@ -1,12 +1,12 @@
 // A plan's entries as words, nine for each: the list itself, and what a walk over it shows. docs/CODES.md, Entries as words.
 #![tactic(auto)]
 
-ghost use Rattle.std.specs.Prelude.{◌≡◌, ◌≤◌, ◌*◌, ◌-◌, length};
+ghost use Rattle.std.specs.Prelude.{◌≡◌, ◌≤◌, length};
 ghost use Rattle.rules.specs.Document01.Entries.{entries_of};
 ghost use Rattle.rules.specs.Document01.Walk.{stepped_of, fresh_of, shown_of};
 ghost use Rattle.rules.specs.Words.{listed, shown_count, ran};
 ghost use Rattle.listing.specs.Showing.{far};
-ghost use Rattle.listing.specs.Walked.{end_of, filled, last_read};
+ghost use Rattle.listing.specs.Walked.{end_of, last_read};
 
 use shows::Show;
 use types::{Plan, Refusal, Shown};
@@ -41,16 +41,6 @@ fn last_shown(x: &Result<Plan, Refusal>, down: bool) -> Shown
     }
 }
 
-// The same thing shown from place i to the end.
-#[tactic(auto, using(crate::proofs::Walked::fills_on))]
-fn fill(words: &[u32; 9], i: usize, n: usize, out: &mut [u32])
-    ensures { out.new ≡ filled (n - i) i words.now out.old }
-{
-    for k in i..n {
-        shows::nine(words, k, out);
-    }
-}
-
 // Two values for each step but the last.
 fn last_read(n: usize) -> usize
     requires { n ≤ far }
@@ -78,6 +68,6 @@ pub fn show_walk(x: &Result<Plan, Refusal>, reads: &[u32], shown: &mut [u32]) ->
     };
     entries::tell(x, &mut show, out);
     let last = words::shown_words(last_shown(x, show.down));
-    fill(&last, show.at, n, out);
+    words::fill_words(out, show.at, n, &last);
     n
 }

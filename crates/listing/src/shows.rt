@@ -18,6 +18,7 @@ pub struct Show<'a> {
 
 // Nine words at place i, where they have room.
 #[tactic(auto, using(crate::proofs::Showing::no_room))]
+#[inline(always)]
 pub fn nine(words: &[u32; 9], i: usize, room: &mut [u32])
     ensures { room.new ≡ stored_at room.old (9 * i) words.now }
 {
@@ -66,6 +67,7 @@ fn met(v: u32, second: Option<(usize, u32)>, i: usize, reads: &[u32]) -> bool
 impl<'a> Show<'a> {
     // An entry that is passed whatever is read.
     #[tactic(auto, unfolding(crate::specs::Show::shown_once))]
+    #[inline(always)]
     fn once(&mut self, words: &[u32; 9], room: &mut [u32])
         ensures { (self.new, room.new) ≡ shown_once words.now (self.old, room.old) }
     {
@@ -78,6 +80,7 @@ impl<'a> Show<'a> {
 
     // A wait for one value, or for two: shown again until what is read lets it pass.
     #[tactic(auto, using(crate::proofs::Told::ends_is))]
+    #[inline(always)]
     fn until(&mut self, f: usize, v: u32, second: Option<(usize, u32)>, room: &mut [u32])
         ensures { (self.new, room.new) ≡ shown (wait_for f v second) (self.old, room.old) }
     {

@@ -8,10 +8,11 @@ use words::steps::Steps;
 
 pub fn walk(planned: Result<Plan, Refusal>) {
     let mut w = walk::fresh(planned);
+    let mut shown = w.shows();
     let mut times: u32 = 0;
     for _ in 0..256 {
         let at = w.at;
-        one(&mut w, times);
+        shown = one(&mut w, shown, times);
         times = if w.at == at {
             times.saturating_add(1)
         } else {
@@ -20,12 +21,12 @@ pub fn walk(planned: Result<Plan, Refusal>) {
     }
 }
 
-// Shows what is next, if it was not shown before, and takes a step with what the chip shows.
-fn one(w: &mut Walk, times: u32) {
-    match w.shows() {
+// A line for what is shown, if it was not shown before, and a step with what the chip shows; what is shown next.
+fn one(w: &mut Walk, shown: Shown, times: u32) -> Shown {
+    match shown {
         Shown::Next(e) => {
             let r = line(e, times);
-            w.step(r.a, r.b);
+            return w.step(r.a, r.b);
         }
         Shown::Finished => {
             if times == 0 {
@@ -39,6 +40,7 @@ fn one(w: &mut Walk, times: u32) {
             }
         }
     }
+    shown
 }
 
 fn line(e: Entry, times: u32) -> Reads {

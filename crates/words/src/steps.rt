@@ -29,8 +29,9 @@ pub trait Steps: Copy {
         ensures rules { stand self.new ≡ rule self.old (stand self.old) a b }
         ensures shown { result ≡ shown_of (stand (after self.old a b)) }
     {
-        *self = self.stepped(a, b);
-        self.shows()
+        let n = self.stepped(a, b);
+        *self = n;
+        n.shows()
     }
 
     // A whole walk over values that were read, two for each step: what was shown before any step and after each, as nine words each. The answer
