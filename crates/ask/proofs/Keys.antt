@@ -1,14 +1,17 @@
 -- Laws on the keys.
 use mathlib.Core.Path.{◌≡◌, refl}
 use mathlib.Core.Bool.{true, false}
+use mathlib.Core.List.{List, [], ◌∷◌}
 use Prim.Native.Nat.{ℕ, ◌+◌, ◌≤◌}
 use native.Mathlib.Omega.{arith}
 use lib.Dec.{ltb, leb}
 use lib.ListN.{length, get_or-eq_default}
 use borrow.Author.Tests.{ltb-true, ltb-false, leb-true}
+use Rattle.std.proofs.Common.{None}
 use Rattle.laws.proofs.Tests.{by_test, at_each}
+use Rattle.text.specs.Names.{is_name, number_in}
 use Rattle.sheet.specs.Sheet.{fresh_sheet}
-use Rattle.ask.specs.Table.{listed, keys, key_at}
+use Rattle.ask.specs.Table.{listed, keys, key_names, key_at}
 use Rattle.ask.specs.Sheet.{width_of}
 use Rattle.ask.specs.declared.Kind.TheVariants.{Nothing}
 
@@ -23,3 +26,9 @@ ends_within k =
 pub fresh_length : length fresh_sheet ≡ 115
 unfolding fresh_sheet
 fresh_length = refl
+
+-- an empty name is no key's
+pub nameless : (name : List ℕ) → length name ≡ 0 → None ≡ number_in key_names name
+unfolding keys number_in is_name
+nameless [] e = refl
+nameless (x ∷ name) e = absurd (omega arith)

@@ -49,11 +49,14 @@ fn place_in(keys: &[(&[u8], Kind, usize)], name: &[u8]) -> Option<usize>
     keys.iter().position(|(key, _, _)| text::is_name(key, name))
 }
 
-// The number of a key.
-#[tactic(auto, unfolding(crate::specs::Table::keys, text::specs::Names::number_in))]
+// The number of a key. An empty name is no key's; asked here, that need not be asked again at each key.
+#[tactic(auto, using(crate::proofs::Keys::nameless), unfolding(crate::specs::Table::keys, text::specs::Names::number_in))]
 pub fn key_number(name: &[u8]) -> Option<usize>
     ensures { result ≡ number_in key_names name.now }
 {
+    if name.is_empty() {
+        return None;
+    }
     place_in(&KEYS, name)
 }
 

@@ -24,8 +24,8 @@ impl Words {
 
     // An argument, or for @FILE what the file has; one that cannot be read stands as a wrong word.
     fn append_argument(&mut self, rt: &impl Files, word: &[u8]) {
-        let mut room = io::buffer();
         if let Some(path) = word.strip_prefix(b"@") {
+            let mut room = io::buffer();
             if let Some(n) = read_file(rt, path, &mut room) {
                 self.append(&room[..n]);
                 return;

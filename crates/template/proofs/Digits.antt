@@ -1,23 +1,21 @@
 -- The digits of a number, the last of which is that of 10 to the power 0.
-use mathlib.Core.Path.{◌≡◌, refl, sym, ◌∙◌}
+use mathlib.Core.Path.{◌≡◌, refl, sym, ap, ◌∙◌}
 use mathlib.Core.Bool.{true, false}
 use mathlib.Core.List.{List, [], ◌∷◌, ◌++◌}
 use Prim.Native.Nat.{ℕ, zero, suc, ◌+◌, ◌-◌, ◌*◌, ◌/◌, ◌%◌, ◌^◌, ◌≤◌, ◌<◌}
+use native.Mathlib.Numerals.{add-one}
 use native.Mathlib.Omega.{arith}
 use lib.Dec.{ltb}
-use lib.ListN.{length, get_or, take, length-append}
-use lib.Seq.{take_all}
+use lib.ListN.{length, set, get_or, take, drop, length-append, length-set, drop_of_length-le}
+use lib.Seq.{drop-cons, drop-set-lt, get_or-set_same}
 use borrow.Author.Tests.{lt-ltb, le-ltb}
 use Rattle.std.proofs.Common.{Option, Some, None, unwrap_or}
 use Rattle.std.specs.Prelude.{IfSome, IfNone}
-use Rattle.std.proofs.Math.Nat.{div-one, div-div-eq-div-mul, pow-succ', pow-le-pow_right}
-use Rattle.std.proofs.Math.Seq.{take-suc, get_or-append_seam}
+use Rattle.std.proofs.Math.Nat.{div-one, div-div-eq-div-mul, pow-suc, pow-succ', pow-le-pow_right}
+use Rattle.std.proofs.Math.Seq.{get_or-append_seam}
 use Rattle.std.proofs.Math.ListN.{get_or-append}
 use Rattle.laws.proofs.Tests.{by_test}
-use Rattle.room.specs.declared.room.Room.{Room}
-use Rattle.room.specs.Write.{Wrote}
 use Rattle.template.specs.Write.{digits_of, decimal_of}
-use Rattle.room.proofs.Written.{nothing, and_then}
 
 -- ---- how many digits there are
 one_digit : (m n : ℕ) → n < 10 → digits_of m n ≡ (48 + n % 10) ∷ []
@@ -51,12 +49,9 @@ at_most (suc m) n =
     (λ (t : ltb n 10 ≡ true). rw t (omega arith))
     (λ (f : ltb n 10 ≡ false). rw f (rw length-append (let h = at_most m (n / 10) in omega arith)))
 
-pub no_overflow : (n k count : ℕ) → count ≡ length (decimal_of n) → k < count → 10 ^ k < 2 ^ 64
+pub twenty : (n count : ℕ) → count ≡ length (decimal_of n) → count ≤ 20
 unfolding decimal_of
-no_overflow n k count e h =
-    let b = at_most 19 n in
-    let p : 10 ^ k ≤ 10 ^ 19 = pow-le-pow_right {n = 10} (omega arith) {i = k} {j = 19} (omega arith) in
-    omega arith
+twenty n count e = let b = at_most 19 n in omega arith
 
 -- ---- the digit of 10^i
 abbrev Digit : (n i : ℕ) → List ℕ → Type 0
@@ -91,23 +86,46 @@ digit (suc m) n (suc i) h =
     let c : i < length (digits_of m (n / 10)) = omega arith in
     rw f (before n i (48 + n % 10) (digits_of m (n / 10)) c (digit m (n / 10) i c)))
 
--- ---- all but the last i digits are written
-abbrev pub Begun : (n count : ℕ) → (o p : Room ℕ) → (i : ℕ) → Type 0
-Begun n count o p i = Wrote o p (take (count - i) (decimal_of n))
+-- ---- a row of twenty holds the digits from place k on, and the rest is what stands before them
+pub record Held (n count k rest : ℕ) (row : List ℕ) : Type 0 where
+  pub size : length row ≡ 20
+  pub left : rest ≡ n / 10 ^ (count - k)
+  pub holds : take (count - k) (drop k row) ≡ drop k (decimal_of n)
 
-pub starts : (n count : ℕ) (o : Room ℕ) → Begun n count o o count
-starts n count o = let e : count - count ≡ 0 = omega arith in rw e (nothing o)
+-- a digit stored in a row, before what stands behind it
+stored : (row : List ℕ) (i d : ℕ) → i < length row → drop i (set row i d) ≡ d ∷ drop (i + 1) row
+stored row i d h =
+    drop-cons (set row i d) i 0 (rw length-set h)
+    ∙ rw (get_or-set_same row i d 0 h, ← add-one) (ap (λ (l : List ℕ). d ∷ l) (drop-set-lt (i + 1) row i d (omega arith)))
 
-module _ (n count : ℕ) (o : Room ℕ) (e : count ≡ length (decimal_of n)) where
-  pub goes_on : {p q : Room ℕ} (k i : ℕ) → k ≤ count → k ≡ i + 1 → Begun n count o p k → Wrote p q ((48 + n / 10 ^ i % 10) ∷ []) → Begun n count o q i
+module _ (n count : ℕ) (e : count ≡ length (decimal_of n)) where
+  pub starts : (row : List ℕ) → length row ≡ 20 → Held n count count n row
+  starts row z =
+      let c : count - count ≡ 0 = omega arith in
+      let none : drop count (decimal_of n) ≡ [] = drop_of_length-le (decimal_of n) {i = count} (omega arith) in
+      record { size = z; left = rw (c, div-one) refl; holds = rw (c, none) refl }
+
+  pub goes_on : (k i rest : ℕ) (row : List ℕ) → k ≤ count → k ≡ i + 1 → Held n count k rest row → Held n count i (rest / 10) (set row i (48 + rest % 10))
   unfolding decimal_of
-  goes_on {p} {q} k i h z v w =
-      let a : count - i ≡ suc (count - k) = omega arith in
-      let y : count - k ≡ length (decimal_of n) - (i + 1) = omega arith in
-      let d : get_or (decimal_of n) (count - k) 0 ≡ 48 + n / 10 ^ i % 10 = rw y (digit 19 n i (omega arith)) in
-      rw (a, take-suc (decimal_of n) (count - k) 0 (omega arith), d) (and_then v w)
+  goes_on k i rest row h z g =
+      let b = twenty n count e in
+      let s = g.size in
+      let p = g.left in
+      let c : count - i ≡ suc (count - k) = omega arith in
+      let f : i + 1 ≡ k = omega arith in
+      let next : suc i ≡ k = omega arith in
+      let y : i ≡ length (decimal_of n) - (count - k + 1) = omega arith in
+      let d : get_or (decimal_of n) i 0 ≡ 48 + n / 10 ^ (count - k) % 10 = rw y (digit 19 n (count - k) (omega arith)) in
+      record {
+        size = length-set row i (48 + rest % 10) ∙ s;
+        left = rw (p, c, pow-suc 10 (count - k)) (div-div-eq-div-mul n (10 ^ (count - k)) 10);
+        holds =
+            rw (c, stored row i (48 + rest % 10) (omega arith), f, g.holds, p)
+            (sym (drop-cons (decimal_of n) i 0 (omega arith) ∙ rw (d, next) refl));
+      }
 
-  pub ends : {p : Room ℕ} (k : ℕ) → k ≤ 0 → Begun n count o p k → Wrote o p (decimal_of n)
-  ends {p} k z v =
-      let t : take (count - k) (decimal_of n) ≡ decimal_of n = take_all (count - k) (decimal_of n) (omega arith) in
-      rw t at v
+  pub ends : (k rest : ℕ) (row : List ℕ) → k ≤ 0 → Held n count k rest row → take count row ≡ decimal_of n
+  ends k rest row z g =
+      let c : count - k ≡ count = omega arith in
+      let y : k ≡ 0 = omega arith in
+      rw (c, y) at g.holds

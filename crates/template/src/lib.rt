@@ -74,7 +74,7 @@ fn in_braces(n: u64, s: State, b: u8) -> State
     }
 }
 
-// The state behind a byte.
+// The state behind a byte. One that stays is made of its fields: a copy of the whole takes the bytes between them along.
 #[tactic(auto, unfolding(crate::specs::Template::next))]
 fn next_state(n: u64, s: State, b: u8) -> State
     requires { s.number < 1000 }
@@ -84,7 +84,7 @@ fn next_state(n: u64, s: State, b: u8) -> State
         (Stage::Text, b'{') => at_stage(Stage::Braces, s.shown),
         (Stage::Braces | Stage::Done, b'}') => at_stage(Stage::Text, s.shown),
         (Stage::Braces, _) => in_braces(n, s, b),
-        _ => s,
+        _ => State { ..s },
     }
 }
 

@@ -31,14 +31,18 @@ pub fn decimal(out: &mut Room<u8>, width: usize, n: u64)
     digits(out, count, n);
 }
 
-// Its digits, so many of them: one for each power of ten, from the highest down.
+// Its digits, so many of them: from the last up in a row of twenty, which is then copied.
 fn digits(out: &mut Room<u8>, count: u32, n: u64)
     requires { count ≡ length (decimal_of n) }
     ensures { Wrote out.old out.new (decimal_of n) }
 {
-    for k in (0..count).rev() {
-        out.put(b'0' + (n / 10u64.pow(k) % 10) as u8);
+    let mut row = [0u8; 20];
+    let mut rest = n;
+    for k in (0..count as usize).rev() {
+        row[k] = b'0' + (rest % 10) as u8;
+        rest /= 10;
     }
+    copy(out, &row[..count as usize]);
 }
 
 // Name n of a table; nothing where there is none.

@@ -4,9 +4,9 @@ use mathlib.Core.Bool.{Bool, true, false, not, ◌&&◌}
 use mathlib.Core.List.{List, [], ◌∷◌, ◌++◌}
 use Prim.Native.Nat.{ℕ, zero, suc, ◌+◌, ◌-◌, ◌≤◌, ◌<◌, min, max}
 use native.Mathlib.Omega.{arith}
-use lib.Dec.{eqb}
-use lib.ListN.{length, take, drop, replicate, length-map}
-use borrow.Author.Tests.{eq-eqb, ne_eqb, eqb-true, eqb-false, not-true, not-false}
+use lib.Dec.{eqb, leb}
+use lib.ListN.{length, get_or, take, drop, replicate, length-map}
+use borrow.Author.Tests.{eq-eqb, ne_eqb, eqb-true, eqb-false, leb-true, leb-false, not-true, not-false}
 use borrow.Author.Rules.{part_to_end}
 use lib.Pointwise.{pointwise}
 use Rattle.std.specs.List.{list_all, position_or_len}
@@ -55,6 +55,14 @@ long_at [] (x ∷ name) (suc k) h = rw (long_at [] name k (omega arith)) (by_tes
 long_at (c ∷ n) (x ∷ name) k h = rw (long_at n name k (omega arith)) (by_test (eqb c x) (λ t. rw t) (λ t. rw t))
 
 -- ---- in its column
+-- another first byte
+pub unlike : (n name : List ℕ) → (get_or n 0 32 ≡ get_or name 0 32 → ⊥) → is_name (column n) name ≡ false
+unfolding is_name
+unlike [] [] h = absurd (h refl)
+unlike [] (x ∷ name) h = rw (ne_eqb 32 x h)
+unlike (c ∷ n) [] h = rw (ne_eqb c 32 h)
+unlike (c ∷ n) (x ∷ name) h = rw (ne_eqb c x h)
+
 module _ (n name : List ℕ) (m : ℕ) (e : m ≡ min (length n) (length name)) (h : length name ≤ max (length n) 12) where
   parts : is_name (column n) name ≡ pointwise eqb (take m n) (take m name) && (list_all Blank (drop m n) && list_all Blank (drop m name))
   parts = parts_at n name (12 - length n) m e (omega arith)
@@ -66,11 +74,15 @@ module _ (n name : List ℕ) (m : ℕ) (e : m ≡ min (length n) (length name)) 
   pub listed_on : not (pointwise eqb (take m n) (take m name)) ≡ false → list_all Blank (take (length n - m) (drop m n)) ≡ false → is_name (column n) name ≡ false
   listed_on t b = let d = not-false _ t in let l = rw part_to_end at b in parts ∙ rw (d, l)
 
-  pub other : not (pointwise eqb (take m n) (take m name)) ≡ true → is_name (column n) name ≡ false
-  other t = let d = not-true _ t in parts ∙ rw d
-
 pub long : (n name : List ℕ) → max (length n) 12 < length name → is_name (column n) name ≡ false
 long n name h = long_at n name (12 - length n) (omega arith)
+
+pub other : (n name : List ℕ) (m : ℕ) → m ≡ min (length n) (length name) → not (pointwise eqb (take m n) (take m name)) ≡ true → is_name (column n) name ≡ false
+other n name m e t =
+    let d = not-true _ t in
+    by_test (leb (length name) (max (length n) 12))
+    (λ (y : leb (length name) (max (length n) 12) ≡ true). parts n name m e (leb-true _ _ y) ∙ rw d)
+    (λ (f : leb (length name) (max (length n) 12) ≡ false). long n name (leb-false _ _ f))
 
 -- ---- the number of a name, in a table with something beside each name
 module _ {X : Type 0} (listed : X → List ℕ) where

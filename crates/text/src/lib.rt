@@ -63,16 +63,22 @@ fn is_blank(s: &[u8]) -> bool
     s.iter().all(|b| *b == b' ')
 }
 
-// Whether a name in its column, with blanks behind it up to twelve bytes, is the given one with blanks behind it.
-#[tactic(auto, using(crate::proofs::Named::same, crate::proofs::Named::listed_on, crate::proofs::Named::other, crate::proofs::Named::long))]
+// Whether a name in its column, with blanks behind it up to twelve bytes, is the given one with blanks behind it. Most of a table's names
+// begin otherwise, so that is asked first.
+#[tactic(auto, using(crate::proofs::Named::unlike, crate::proofs::Named::same, crate::proofs::Named::listed_on, crate::proofs::Named::other, crate::proofs::Named::long))]
 pub fn is_name(listed: &[u8], name: &[u8]) -> bool
     ensures { result ≡ is_name (column listed.now) name.now }
 {
+    if let (Some(a), Some(b)) = (listed.first(), name.first()) {
+        if a != b {
+            return false;
+        }
+    }
     let both = listed.len().min(name.len());
-    if name.len() > listed.len().max(12) {
+    if listed[..both] != name[..both] {
         return false;
     }
-    if listed[..both] != name[..both] {
+    if name.len() > listed.len().max(12) {
         return false;
     }
     is_blank(&listed[both..]) && is_blank(&name[both..])
