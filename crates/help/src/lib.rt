@@ -80,7 +80,7 @@ pub fn wrong_word(words: &[u8], at: WrongWord) {
     say(b"plan: ");
     say(word);
     say(b": ");
-    if word.starts_with(b"@") {
+    if words.get(at.from) == Some(&b'@') {
         say(b"this file cannot be read\n");
     } else {
         right(at.wrong);

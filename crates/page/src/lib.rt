@@ -20,8 +20,8 @@ fn clocks(report: &[u32], bank: &[u32], hse: Option<u32>) {
 }
 
 fn pll(n: u32, x: &Option<PllSettings>, src: u32) {
-    if x.is_some() {
-        let numbers = lines::pll_line(n, src, &pll_words::all_words(x));
+    let numbers = lines::pll_line(n, src, &pll_words::all_words(x));
+    if numbers[2] != 0 {
         print::line(
             b"pll{0}        {1#} / {2} = {3}, x {4}{5?} + {6}/8192{.}, VCO {7}, {8#}\n",
             &print::CLOCKS,
@@ -30,10 +30,11 @@ fn pll(n: u32, x: &Option<PllSettings>, src: u32) {
     }
 }
 
-// The clocks, the PLLs and the wait states.
-pub fn plan(p: &Plan, bank: &[u32; 82]) {
+// The clocks, the PLLs and the wait states; beside a refusal those of the plan of zeros.
+pub fn plan(x: &Result<Plan, Refusal>, bank: &[u32; 82]) {
+    let p = x.unwrap_or(report::blank_plan());
     let mut words: [u32; 55] = [0; 55];
-    report::store_report(p, &mut words);
+    report::store_report(&p, &mut words);
     clocks(&words, bank, p.clocks.hse);
     let source = p.selectors.src;
     pll(1, &p.plls[0], source);
@@ -45,7 +46,7 @@ pub fn plan(p: &Plan, bank: &[u32; 82]) {
         &[
             u64::from(p.waits.latency),
             u64::from(p.waits.delay),
-            entries::entry_count(&Ok(*p)) as u64,
+            entries::entry_count(x) as u64,
         ],
     );
 }

@@ -12,7 +12,7 @@ pub fn show(sheet: [u8; 115]) {
     let mut bank = fields::reset_bank();
     let x = ask_planner(&sheet, &mut bank);
     match &x {
-        Ok(plan) => page::plan(plan, &bank),
+        Ok(_) => page::plan(&x, &bank),
         Err(n) => {
             refused::show(sheet, *n);
             help::page(refusal::number_of(*n));

@@ -1,4 +1,4 @@
-// A plan's report as 55 words: docs/CODES.md, The C functions.
+// A plan's report as 55 words: docs/CODES.md, The C functions; and the plan that is reported where there is none.
 #![tactic(auto)]
 
 ghost use Rattle.std.specs.Prelude.{◌≡◌};
@@ -6,10 +6,12 @@ ghost use Rattle.rules.specs.Words.{stored_from, report_words};
 ghost use Rattle.report.specs.Report.{always_words, given_words, output_words, divisor_words, parts_words};
 ghost use Rattle.room.specs.Write.{Wrote};
 
+pub use blank::blank_plan;
 use room::Room;
 use types::{Buses, Clocks, Mcos, Plan, PllSettings};
 use write::{clock, four, pll, three};
 
+mod blank;
 mod write;
 
 // The system clock, the buses, the timers, the peripheral clock and the chip's oscillators.

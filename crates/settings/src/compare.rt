@@ -5,12 +5,12 @@ use crate::found;
 use print::say;
 
 // How many numbers and settings are compared, and how many numbers differ; the letter of the last setting.
-#[derive(Drop)]
+#[derive(Clone, Copy)]
 pub struct Tally<'a> {
     pub numbers: u64,
     pub settings: u64,
     pub differ: u64,
-    letter: &'a str,
+    pub letter: &'a str,
 }
 
 impl<'a> Tally<'a> {

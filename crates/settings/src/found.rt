@@ -1,5 +1,6 @@
 // What the planner finds: the words of a request planned on a chip, and the numbers of the plan by their names.
-ghost use Rattle.std.specs.Prelude.{◌<◌, IfSome};
+ghost use Rattle.std.specs.Prelude.{◌≡◌, ◌<◌, IfSome};
+ghost use Rattle.settings.specs.Numbers.{numbers_of};
 
 use ask::WrongWord;
 use types::{Plan, Refusal};
@@ -39,40 +40,34 @@ pub fn name_number(name: &[u8]) -> Option<usize>
     text::name_number(&NAMES, name)
 }
 
-// The numbers in the order of their names. Beside a refusal they are 0.
-fn numbers(x: Result<Plan, Refusal>) -> [u32; 19] {
-    match x {
-        Ok(plan) => {
-            let a = pll_words::all_words(&plan.plls[0]);
-            let b = pll_words::all_words(&plan.plls[1]);
-            [
-                0,
-                a[0],
-                a[2],
-                a[5],
-                a[10],
-                b[0],
-                b[1],
-                b[2],
-                b[3],
-                b[5],
-                b[7],
-                b[8],
-                b[10],
-                b[13],
-                b[11],
-                plan.waits.latency,
-                plan.buses.ahb.clock,
-                plan.buses.ahb.pre,
-                plan.mcos.mco1.pre,
-            ]
-        }
-        Err(n) => {
-            let mut all = [0; 19];
-            all[0] = refusal::number_of(n);
-            all
-        }
-    }
+// The numbers in the order of their names. Beside a refusal, which is the first of them, they are those of the plan of zeros.
+fn numbers(x: &Result<Plan, Refusal>) -> [u32; 19]
+    ensures { result ≡ numbers_of x.now }
+{
+    let plan = x.unwrap_or(report::blank_plan());
+    let a = pll_words::all_words(&plan.plls[0]);
+    let b = pll_words::all_words(&plan.plls[1]);
+    [
+        refusal::code_of(x),
+        a[0],
+        a[2],
+        a[5],
+        a[10],
+        b[0],
+        b[1],
+        b[2],
+        b[3],
+        b[5],
+        b[7],
+        b[8],
+        b[10],
+        b[13],
+        b[11],
+        plan.waits.latency,
+        plan.buses.ahb.clock,
+        plan.buses.ahb.pre,
+        plan.mcos.mco1.pre,
+    ]
 }
 
 // The words of the chip, and over them those of the request, planned.
@@ -80,5 +75,5 @@ pub fn on(chip: &[u8], request: &[u8]) -> Result<[u32; 19], WrongWord> {
     let mut sheet = sheet::fresh();
     ask::take_all(&mut sheet, chip)?;
     ask::take_all(&mut sheet, request)?;
-    Ok(numbers(rcc::plan(sheet::request(&sheet), sheet::chip(&sheet))))
+    Ok(numbers(&rcc::plan(sheet::request(&sheet), sheet::chip(&sheet))))
 }

@@ -35,7 +35,7 @@ fn planned(file: &mut File, length: u32) -> std::io::Result<Result<Plan, Refusal
     Ok(rcc::plan(&request[..n], chip))
 }
 
-// A plan's clocks and divisors, the 55 words of a report, stand behind the request, and then its entries.
+// A plan's clocks and divisors, the 55 words of a report, stand behind the request, and then its entries. A refusal is compared as the plan of zeros.
 fn same(
     file: &mut File,
     x: Result<Plan, Refusal>,
@@ -46,9 +46,7 @@ fn same(
         return Ok(true);
     }
     let mut words = [0u32; 2304];
-    if let Ok(plan) = &x {
-        report::store_report(plan, &mut words);
-    }
+    report::store_report(&x.unwrap_or(report::blank_plan()), &mut words);
     let clocks = wide(file, &words)?;
     listing::store_list(&x, &mut words);
     let list = narrow(file, &words, entries)?;

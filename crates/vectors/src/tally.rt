@@ -1,12 +1,13 @@
 // What was replayed, and the lines that say so.
 
 // By what the Rust did, how many of its answers are the planner's, which are plans, refusals, its end with a forbidden divider of P, and bytes on
-// which it is not run; the plans' entries; and how many answers differ.
+// which it is not run; the plans' entries; how many answers differ; and both kinds of other refusals together.
 #[derive(Drop)]
 pub struct Tally {
     did: [u64; 4],
     entries: u64,
     differ: u64,
+    others: u64,
 }
 
 pub fn fresh() -> Tally {
@@ -14,6 +15,7 @@ pub fn fresh() -> Tally {
         did: [0; 4],
         entries: 0,
         differ: 0,
+        others: 0,
     }
 }
 
@@ -26,10 +28,24 @@ fn say(form: &[u8], numbers: &[u64]) {
 }
 
 impl Tally {
+    // The number that counts what the Rust did. No record has a byte above 3: it counts at the numbers behind the four, in turns of nine, of which two
+    // are of the whole file.
+    fn number(&mut self, did: u32) -> Option<&mut u64> {
+        match did % 9 {
+            k @ 0..=3 => Some(&mut self.did[k as usize]),
+            4 => Some(&mut self.entries),
+            5 => Some(&mut self.differ),
+            6 => Some(&mut self.others),
+            _ => None,
+        }
+    }
+
     pub fn agrees(&mut self, did: u32, entries: u32) {
-        let at = (did % 4) as usize;
-        self.did[at] = self.did[at].wrapping_add(1);
+        if let Some(n) = self.number(did) {
+            *n = n.wrapping_add(1);
+        }
         self.entries = self.entries.wrapping_add(u64::from(entries));
+        self.others = self.others.wrapping_add(u64::from(did / 2));
     }
 
     // Record k differs: its kind and both answers, 0 for a plan and another number for a refusal.
@@ -63,7 +79,7 @@ impl Tally {
                 damaged,
                 self.entries,
                 self.differ,
-                forbidden.wrapping_add(damaged),
+                self.others,
                 u64::from(records),
                 u64::from(more),
             ],
