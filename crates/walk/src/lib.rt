@@ -63,6 +63,25 @@ fn passed(w: Walk, e: Entry, a: u32, b: u32) -> Walk
     }
 }
 
+impl Walk {
+    // What it shows; the walk, with its plan, is lent and not copied.
+    #[tactic(auto, using(crate::proofs::Places::shown_at), unfolding(crate::specs::Walk::stand_of))]
+    fn shown(&self) -> Shown
+        ensures { result ≡ shown_of (stand_of self.now) }
+    {
+        if self.down {
+            return Shown::Stopped(Refusal::CsiDown);
+        }
+        match &self.planned {
+            Err(n) => Shown::Stopped(*n),
+            Ok(_) => match entries::entry_at(&self.planned, self.at) {
+                Some(e) => Shown::Next(e),
+                None => Shown::Finished,
+            },
+        }
+    }
+}
+
 impl Steps for Walk {
     ghost stand = { stand_of };
 
@@ -70,23 +89,13 @@ impl Steps for Walk {
 
     ghost after = { stepped_walk };
 
-    #[tactic(auto, using(crate::proofs::Places::shown_at), unfolding(crate::specs::Walk::stand_of))]
     fn shows(self) -> Shown {
-        if self.down {
-            return Shown::Stopped(Refusal::CsiDown);
-        }
-        match self.planned {
-            Err(n) => Shown::Stopped(n),
-            Ok(_) => match entries::entry_at(&self.planned, self.at) {
-                Some(e) => Shown::Next(e),
-                None => Shown::Finished,
-            },
-        }
+        self.shown()
     }
 
     #[tactic(auto, unfolding(crate::specs::Walk::stepped_walk), using(crate::proofs::Places::fits, crate::proofs::Laws::step_stands, crate::proofs::Laws::passed_stands))]
     fn stepped(self, a: u32, b: u32) -> Walk {
-        match self.shows() {
+        match self.shown() {
             Shown::Next(e) => passed(self, e, a, b),
             Shown::Finished => self,
             Shown::Stopped(_) => self,
